@@ -1,0 +1,8 @@
+-- Laws that hold for every driver.
+pub mod Bits
+pub mod Table
+pub mod Unroll
+pub mod Refine
+pub mod Going
+pub mod Enough
+pub mod Spent

@@ -1,0 +1,20 @@
+-- `regs::bus::Bus::applied` meets its contract.
+use mathlib.Core.Path.{sym, _∙_}
+use borrow.Author.Needs.{needs}
+use Rattle.regs.proofs.bus.Bus.applied.Statement.{statement}
+use Rattle.regs.proofs.bus.Bus.applied.Tie as tie
+
+has-stop-requires : tie.Need-has-stop-requires
+has-stop-requires c κs = search needs
+
+of-requires : tie.Need-of-requires
+of-requires c κs = search needs
+
+returns : tie.Need-returns
+returns c = simp (sym (c .before .has-stop .ensures) ∙ c .if1 .taken)
+
+returns-2 : tie.Need-returns-2
+returns-2 c = simp (sym (c .before .before .has-stop .ensures) ∙ c .before .if1 .left, c .of .ensures)
+
+pub applied-spec : {M : Type 1} → statement M
+applied-spec = tie.close (tie.spec has-stop-requires of-requires returns returns-2)

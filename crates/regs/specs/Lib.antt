@@ -1,0 +1,8 @@
+-- What a reader has to believe of the registers, and the language in which the drivers are written down.
+pub mod Registers
+pub mod Fields
+pub mod Program
+pub mod Answers
+pub mod Log
+pub mod Bus
+pub mod Machine
