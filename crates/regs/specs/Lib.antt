@@ -4,5 +4,4 @@ pub mod Fields
 pub mod Program
 pub mod Answers
 pub mod Log
-pub mod Bus
 pub mod Machine

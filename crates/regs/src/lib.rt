@@ -1,8 +1,7 @@
-// The register library beneath master and slave: the controller's 25 registers, the fields of their words, the access log and the bus.
+// The register library beneath master and slave: the controller's 25 registers, the fields of their words, and the access log.
 pub mod answers; // what a call answers, with document 01's numbers
 pub mod fields; // the words' fields, by shifts and masks
 pub mod access; // one access: performed, logged and read back
-pub mod bus; // the bus state, and the sequence that a log makes
 
 // The registers' offsets (RP2040 datasheet, I2C chapter), ascending. The names below are its rows.
 pub const OFFSETS: [u8; 25] = [

@@ -1,8 +1,8 @@
--- `regs::bus::Bus::opens` meets its contract.
+-- `bus::Bus::opens` meets its contract.
 use mathlib.Core.Path.{sym, _∙_}
 use borrow.Author.Needs.{needs}
-use Rattle.regs.proofs.bus.Bus.opens.Statement.{statement}
-use Rattle.regs.proofs.bus.Bus.opens.Tie as tie
+use Rattle.bus.proofs.Bus.opens.Statement.{statement}
+use Rattle.bus.proofs.Bus.opens.Tie as tie
 
 enum-told : tie.Need-enum-told
 enum-told c = search needs

@@ -1,8 +1,8 @@
--- `regs::bus::Direction::of` meets its contract.
+-- `bus::Direction::of` meets its contract.
 use mathlib.Core.Path.{sym, _∙_}
 use borrow.Author.Needs.{needs}
-use Rattle.regs.proofs.bus.Direction.of.Statement.{statement}
-use Rattle.regs.proofs.bus.Direction.of.Tie as tie
+use Rattle.bus.proofs.Direction.of.Statement.{statement}
+use Rattle.bus.proofs.Direction.of.Tie as tie
 
 is-read-requires : tie.Need-is-read-requires
 is-read-requires c κs = search needs

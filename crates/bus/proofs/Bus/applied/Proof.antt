@@ -1,8 +1,8 @@
--- `regs::bus::Bus::applied` meets its contract.
+-- `bus::Bus::applied` meets its contract.
 use mathlib.Core.Path.{sym, _∙_}
 use borrow.Author.Needs.{needs}
-use Rattle.regs.proofs.bus.Bus.applied.Statement.{statement}
-use Rattle.regs.proofs.bus.Bus.applied.Tie as tie
+use Rattle.bus.proofs.Bus.applied.Statement.{statement}
+use Rattle.bus.proofs.Bus.applied.Tie as tie
 
 has-stop-requires : tie.Need-has-stop-requires
 has-stop-requires c κs = search needs

@@ -4,17 +4,17 @@ use mathlib.Core.Bool.{Bool, true, false, not, _&&_}
 use mathlib.Core.List.{List, [], _∷_, _++_, map}
 use lib.Dec.{eqb}
 use lib.ListN.{getD}
 use Rattle.regs.specs.declared.access.Entry.{Entry}
 use Rattle.regs.specs.declared.access.Entry.the-variants.{Read, Write, Marked}
 use Rattle.regs.specs.Program.{if_then_else_}
 use Rattle.regs.specs.Registers.{TAR, DATA-CMD}
 use Rattle.regs.specs.Fields.{b2n, dat, cmd, stop, restart, address-field}
-use Rattle.regs.specs.declared.bus.Direction.{Direction}
-use Rattle.regs.specs.declared.bus.Direction.the-variants.{Writing, Reading}
-use Rattle.regs.specs.declared.bus.Bus.{Bus}
-use Rattle.regs.specs.declared.bus.Bus.the-variants.{Idle, Busy}
-use Rattle.regs.specs.declared.bus.Opening.{Opening}
-use Rattle.regs.specs.declared.bus.Opening.the-variants.{None, Start, Restart}
+use Rattle.bus.specs.declared.Direction.{Direction}
+use Rattle.bus.specs.declared.Direction.the-variants.{Writing, Reading}
+use Rattle.bus.specs.declared.Bus.{Bus}
+use Rattle.bus.specs.declared.Bus.the-variants.{Idle, Busy}
+use Rattle.bus.specs.declared.Opening.{Opening}
+use Rattle.bus.specs.declared.Opening.the-variants.{None, Start, Restart}
 
 -- what is seen on the bus: entries of different kinds differ, whatever their values
 pub data Sign : Type 0 where

@@ -1,12 +1,12 @@
 // The bus between two words, and the sequence that a log makes of it (UM10204, and DATA_CMD in the RP2040 datasheet).
-use super::fields::has_restart;
-use super::fields::has_stop;
-use super::fields::is_read;
+use regs::fields::has_restart;
+use regs::fields::has_stop;
+use regs::fields::is_read;
 ghost use mathlib.Core.Path.{_≡_};
 ghost use mathlib.Core.Bool.{_&&_, not};
 ghost use Prim.Native.Nat.{_<_};
 ghost use Rattle.regs.specs.Fields.{restart};
-ghost use Rattle.regs.specs.Bus.{direction-of, direction-bit, same, opening-of, after};
+ghost use Rattle.bus.specs.Bus.{direction-of, direction-bit, same, opening-of, after};
 
 // The direction of a byte on the bus.
 pub enum Direction {

@@ -1,7 +1,7 @@
--- `regs::bus::Direction::goes_on` meets its contract.
+-- `bus::Direction::goes_on` meets its contract.
 use borrow.Author.Needs.{needs}
-use Rattle.regs.proofs.bus.Direction.goes_on.Statement.{statement}
-use Rattle.regs.proofs.bus.Direction.goes_on.Tie as tie
+use Rattle.bus.proofs.Direction.goes_on.Statement.{statement}
+use Rattle.bus.proofs.Direction.goes_on.Tie as tie
 
 of-requires : tie.Need-of-requires
 of-requires c κs = search needs

@@ -1,0 +1,2 @@
+-- The bus: what a log makes of it.
+pub mod Bus
