@@ -1,0 +1,23 @@
+-- `clock::start` meets its contract.
+use borrow.Author.Tests.{eq-eqb, le-ltb, lt-ltb, ne-eqb}
+use borrow.Author.Needs.{needs}
+use Rattle.clock.proofs.start.Statement.{statement}
+use Rattle.clock.proofs.start.Tie as tie
+
+returns : tie.Need-returns
+returns c = simp (lt-ltb _ _ (c .if1 .taken))
+
+returns-2 : tie.Need-returns-2
+returns-2 c = simp (le-ltb _ _ (c .before .if1 .left), eq-eqb _ _ (c .if2 .taken))
+
+returns-3 : tie.Need-returns-3
+returns-3 c = simp (le-ltb _ _ (c .before .before .if1 .left), ne-eqb _ _ (c .before .if2 .left), lt-ltb _ _ (c .if3 .taken))
+
+setting-of-requires : tie.Need-setting-of-requires
+setting-of-requires c κs = search needs
+
+returns-4 : tie.Need-returns-4
+returns-4 c = simp (le-ltb _ _ (c .before .before .before .if1 .left), ne-eqb _ _ (c .before .before .if2 .left), le-ltb _ _ (c .before .if3 .left), c .setting-of .ensures)
+
+pub start-spec : {M : Type 1} → statement M
+start-spec = tie.close (tie.spec returns returns-2 returns-3 setting-of-requires returns-4)
