@@ -18,7 +18,7 @@ use Rattle.clock.specs.declared.Setting.{Setting}
 use Rattle.clock.specs.declared.Setting.the-variants.{Legal, Illegal}
 
 -- by cases of a test, with what it said
-by-test : {P : Type 0} (q : Bool) → (q ≡ true → P) → (q ≡ false → P) → P
+pub by-test : {P : Type 0} (q : Bool) → (q ≡ true → P) → (q ≡ false → P) → P
 by-test true f g = f refl
 by-test false f g = g refl
 
@@ -29,7 +29,7 @@ hold-test l d h =
     (λ q. let a : l - 2 < d = ltb-true (l - 2) d q in rw (q, lt-ltb l (d + 2) (omega arith)))
     (λ q. let a : d ≤ l - 2 = ltb-false (l - 2) d q in rw (q, le-ltb l (d + 2) (omega arith)))
 
-small : (n : ℕ) → ltb 0xffff n ≡ false → as-u16 n ≡ n
+pub small : (n : ℕ) → ltb 0xffff n ≡ false → as-u16 n ≡ n
 small n q = let h : n ≤ 65535 = ltb-false 65535 n q in omega arith
 
 module _ (f clk h l : ℕ) where

@@ -1,3 +1,4 @@
--- The machine against the Rust, and the counts against the datasheet.
+-- The machine against the Rust, the counts against the datasheet, and the settings that are accepted.
 pub mod Agrees
 pub mod Counted
+pub mod Accepted

@@ -28,7 +28,7 @@ pub record NotRefused (frequency clk : ℕ) : Type 0 where
   pub hold-fits : hold frequency clk ≤ lcnt frequency clk - 2
 
 -- IC_FS_SCL_HCNT, IC_FS_SCL_LCNT, IC_FS_SPKLEN and IC_SDA_HOLD as the datasheet wants them. The spike count is cut to 8 bits as in the Rust,
--- so that it is 0, where the datasheet wants at least 1, if lcnt ÷ 16 is a multiple of 256 (docs/DIFFERENCES.md).
+-- so that it can be 0, where the datasheet wants at least 1, but only if lcnt ÷ 16 is a multiple of 256 (docs/DIFFERENCES.md).
 pub record Lawful (hcnt lcnt hold spike : ℕ) : Type 0 where
   pub hcnt-low : 8 ≤ hcnt
   pub hcnt-high : hcnt ≤ 65535
@@ -37,4 +37,4 @@ pub record Lawful (hcnt lcnt hold spike : ℕ) : Type 0 where
   pub hold-short : hold ≤ lcnt - 2
   pub low-over-spike : spike + 7 < lcnt
   pub high-over-spike : spike + 5 < hcnt
-  pub spike-at-least-1 : (lcnt / 16 % 256 ≡ 0 → lcnt < 16) → 1 ≤ spike
+  pub spike-zero : spike ≡ 0 → (16 ≤ lcnt) × (lcnt / 16 % 256 ≡ 0)
