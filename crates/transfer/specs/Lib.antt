@@ -1,0 +1,3 @@
+-- The machine of a master transfer. Only contracts of inner functions cite this: what the calls leave is said by the crate `master`.
+pub mod Points
+pub mod Machine

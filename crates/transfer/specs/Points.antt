@@ -1,0 +1,14 @@
+-- A transfer's parts.
+use Prim.Native.Nat.{ℕ}
+use mathlib.Core.Bool.{Bool, true, false}
+use Rattle.transfer.specs.declared.points.Point.{Point}
+use Rattle.transfer.specs.declared.points.Tried.{Tried}
+use Rattle.transfer.specs.declared.points.Tried.the-variants.{Fine, Failed}
+use Rattle.transfer.specs.declared.points.Transfer.{Transfer}
+
+abbrev pub with-point : Transfer → Point → Transfer
+with-point t p = record { point = p; mode = t .mode; restart = t .restart; «send_stop» = t .«send_stop»; address = t .address; len = t .len; at = t .at; begun = t .begun; reads = t .reads; writes = t .writes }
+
+abbrev pub has-failed : Tried → Bool
+has-failed Fine = false
+has-failed (Failed r) = true
