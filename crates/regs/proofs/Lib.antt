@@ -8,3 +8,4 @@ pub mod Enough
 pub mod Spent
 pub mod Legal
 pub mod LegalExample
+pub mod RoundTrip

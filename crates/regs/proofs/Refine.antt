@@ -209,7 +209,7 @@ outcome-fits (asks f) room rs b z = outcome-fits (f z) room rs b z
 outcome-fits (keeps z′ t) room rs b z = outcome-fits t room rs b z′
 outcome-fits cut room rs b z = zero-le
 
-length-encode : (es : List Entry) → length (encode es) ≡ length es * 2
+pub length-encode : (es : List Entry) → length (encode es) ≡ length es * 2
 length-encode [] = refl
 length-encode (E.Read r v ∷ es) = let ih : length (encode es) ≡ length es * 2 = length-encode es in omega arith
 length-encode (E.Write r v ∷ es) = let ih : length (encode es) ≡ length es * 2 = length-encode es in omega arith

@@ -11,13 +11,13 @@ use lib.ListN.{length, getD}
 use borrow.Author.Tests.{ltb-true}
 use Rattle.regs.specs.Registers.{offsets, row}
 
-left : (a b : Bool) → T (a && b) → T a
-left true b t = tt
-left false b t = t
+pub both-left : (a b : Bool) → T (a && b) → T a
+both-left true b t = tt
+both-left false b t = t
 
-right : (a b : Bool) → T (a && b) → T b
-right true b t = t
-right false b t = absurd t
+pub both-right : (a b : Bool) → T (a && b) → T b
+both-right true b t = t
+both-right false b t = absurd t
 
 -- the test f passes at each number below n
 abbrev pub all-below : (ℕ → Bool) → ℕ → Bool
@@ -27,10 +27,10 @@ all-below f (suc n) = f n && all-below f n
 pub under : (f : ℕ → Bool) (n : ℕ) → T (all-below f n) → (k : ℕ) → k < n → T (f k)
 under f zero t k h = absurd (not-suc-le-zero h)
 under f (suc n) t k h =
-    ⊎-elim (λ e. subst (λ (m : ℕ). T (f m)) (sym e) (left (f n) (all-below f n) t))
-    (λ l. under f n (right (f n) (all-below f n) t) k l) (eq-or-lt-of-le (le-of-suc-le-suc h))
+    ⊎-elim (λ e. subst (λ (m : ℕ). T (f m)) (sym e) (both-left (f n) (all-below f n) t))
+    (λ l. under f n (both-right (f n) (all-below f n) t) k l) (eq-or-lt-of-le (le-of-suc-le-suc h))
 
-test-true : (b : Bool) → T b → b ≡ true
+pub test-true : (b : Bool) → T b → b ≡ true
 test-true true t = refl·
   where
     refl· : true ≡ true
