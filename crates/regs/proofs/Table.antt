@@ -1,5 +1,5 @@
 -- The rule of the table of registers, at every row by one test that antt computes: offsets are multiples of 4 and ascend, so no two are equal.
-use mathlib.Core.Path.{_≡_, _∙_, subst, sym}
+use mathlib.Core.Path.{_≡_, refl, subst, sym}
 use mathlib.Core.Bool.{Bool, true, false, _&&_}
 use mathlib.Core.List.{List, [], _∷_}
 use mathlib.Core.Logic.{⊎-elim}
@@ -31,10 +31,7 @@ under f (suc n) t k h =
     (λ l. under f n (both-right (f n) (all-below f n) t) k l) (eq-or-lt-of-le (le-of-suc-le-suc h))
 
 pub test-true : (b : Bool) → T b → b ≡ true
-test-true true t = refl·
-  where
-    refl· : true ≡ true
-    refl· = cc
+test-true true t = refl
 test-true false t = absurd t
 
 pub aligned : (n : ℕ) → n < 25 → row n % 4 ≡ 0
@@ -49,3 +46,9 @@ ascending m zero h l = absurd (not-suc-le-zero h)
 ascending m (suc n) h l =
     ⊎-elim (λ e. subst (λ (k : ℕ). row k < row (suc n)) (sym e) (next-larger n (omega arith)))
     (λ k. omega (arith, ascending m n k (omega arith), next-larger n (omega arith))) (eq-or-lt-of-le (le-of-suc-le-suc h))
+
+-- what a list has at an index does not depend on what stands past its end
+pub getD-inside : (l : List ℕ) (n d e : ℕ) → n < length l → getD l n d ≡ getD l n e
+getD-inside [] n d e h = absurd (not-suc-le-zero h)
+getD-inside (x ∷ l) zero d e h = refl
+getD-inside (x ∷ l) (suc n) d e h = getD-inside l n d e (le-of-suc-le-suc h)
