@@ -1,9 +1,9 @@
 -- A log read entry by entry, and the sequence put down word by word: what is still to be put from here on is the rest of the whole.
-use Prim.Native.Nat.{ℕ, zero, suc, _+_, _*_, _/_, _<_, _≤_}
+use Prim.Native.Nat.{ℕ, suc, _+_, _*_, _/_, _<_, _≤_}
 use native.Mathlib.Omega.{arith}
 use native.Mathlib.Nat.{add-zero}
 use mathlib.Core.Bool.{Bool, true, false}
-use mathlib.Core.List.{List, [], _∷_, _++_, append-assoc}
+use mathlib.Core.List.{List, [], _∷_, _++_}
 use mathlib.Core.Path.{_≡_, refl, ap, sym, _∙_}
 use lib.Dec.{eqb}
 use lib.ListN.{length, getD, set, drop, length-append}
@@ -17,13 +17,13 @@ use Rattle.regs.specs.Log.{entry, decode}
 use Rattle.regs.proofs.RoundTrip.{decode-next, decode-end}
 use Rattle.bus.specs.declared.Direction.{Direction}
 use Rattle.bus.specs.declared.Bus.{Bus}
-use Rattle.bus.specs.declared.Bus.the-variants.{Idle, Busy}
+use Rattle.bus.specs.declared.Bus.the-variants.{Idle}
 use Rattle.bus.specs.declared.Opening.{Opening}
 use Rattle.bus.specs.declared.Opening.the-variants.{None, Start, Restart}
 use Rattle.bus.specs.declared.Written.{Written}
 use Rattle.bus.specs.declared.Written.the-variants.{Nothing, Value}
 use Rattle.bus.specs.declared.Placed.{Placed}
-use Rattle.bus.specs.Bus.{Sign, direction-of, opening-of, opening, byte-sign, closing, after, signs-of, signs, written-to, sign-word, sign-words}
+use Rattle.bus.specs.Bus.{Sign, direction-of, opening-of, opening, byte-sign, closing, signs-of, signs, written-to, sign-word, sign-words}
 use Rattle.bus.specs.Placed.{written-by, made, moved}
 
 -- ---- the log

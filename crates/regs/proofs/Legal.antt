@@ -9,7 +9,7 @@ use mathlib.Core.List.{List, [], _∷_}
 use lib.Dec.{T}
 use lib.ListN.{set, length}
 use Rattle.regs.specs.Registers.{legal-read, legal-write}
-use Rattle.regs.specs.Program.{if_then_else_, Behaviour, ends, reads, writes, marks, stores, asks, keeps, cut, Program, behaviour, when, turns, while, Turn, again, done, by-turn, rounds, loop, Poll, pending, ready, polled, wait-on, _>>=_, outcome}
+use Rattle.regs.specs.Program.{if_then_else_, Behaviour, ends, reads, writes, marks, stores, asks, keeps, cut, Program, when, turns, Turn, again, done, by-turn, rounds, Poll, pending, ready, polled, wait-on, _>>=_, outcome}
 use Rattle.regs.specs.Log.{Legal, Each, legal-mark, expected}
 use Rattle.regs.specs.declared.answers.Answer.{Answer}
 use Rattle.regs.specs.declared.answers.Reply.the-variants.{Answered, LogFull, OutOfReadings}

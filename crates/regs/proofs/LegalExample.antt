@@ -1,10 +1,10 @@
 -- `Legal.antt` at work: a driver with each form of the language, and the law that each of its logs is legal.
 use Prim.Native.Nat.{ℕ, _+_}
-use mathlib.Core.Bool.{Bool, true, false}
+use mathlib.Core.Bool.{Bool, true}
 use mathlib.Core.List.{List}
 use Rattle.regs.specs.Registers.{TAR, DATA-CMD, ENABLE, INTR-MASK, RAW-INTR-STAT, CLR-TX-ABRT, TX-ABRT-SOURCE, TXFLR}
 use Rattle.regs.specs.Fields.{tx-abrt, stop-det, level, set-m-stop-det}
-use Rattle.regs.specs.Program.{if_then_else_, Program, _>>=_, _>>_, return, exit, get, put, modify, mark, store, ask, keep, when, while, loop, wait-on, Turn, again, done, Poll, pending, ready, skip, BLOCK-RESET}
+use Rattle.regs.specs.Program.{if_then_else_, Program, _>>=_, _>>_, return, get, put, modify, mark, store, ask, keep, when, while, loop, wait-on, again, done, pending, ready, skip, BLOCK-RESET}
 use Rattle.regs.specs.Log.{Legal, Each, expected}
 use Rattle.regs.specs.declared.answers.Answer.{Answer}
 use Rattle.regs.specs.declared.answers.Answer.the-variants.{Accepted}

@@ -22,7 +22,6 @@ use Rattle.regs.specs.declared.answers.Reply.the-variants.{Answered, Log
 use Rattle.regs.specs.declared.access.Ran.{Ran}
 use Rattle.regs.specs.declared.access.Entry.{Entry}
 use Rattle.regs.specs.declared.access.Entry.the-variants as E
-use Rattle.regs.specs.declared.access.Next.{Next}
 use Rattle.regs.specs.declared.access.Next.the-variants.{Read, Write, Mark, Finished}
 use Rattle.regs.specs.declared.access.Store.{Store}
 use Rattle.regs.specs.declared.access.Store.the-variants.{Nothing, Byte}

@@ -2,11 +2,11 @@
 use Prim.Native.Nat.{ℕ, zero, suc, _+_, _*_, _/_, _%_, _<_, _≤_}
 use native.Mathlib.Omega.{arith}
 use mathlib.Core.Bool.{Bool, true, false, _||_, _&&_}
-use mathlib.Core.List.{List, [], _∷_, _++_}
+use mathlib.Core.List.{List, [], _∷_}
 use mathlib.Core.Path.{_≡_, refl, ap, _∙_}
 use lib.Dec.{T, eqb, ltb, eqb→eq}
-use lib.ListN.{length, getD, take, drop, length-drop, drop-of-length-le}
-use lib.Seq.{take-at, drop-cons}
+use lib.ListN.{length, getD, take, drop, length-drop}
+use lib.Seq.{take-at, drop-cons, getD-take}
 use borrow.Author.Tests.{ltb-true}
 use Rattle.regs.specs.Registers.{Register, registers, any, can-write, legal-read, legal-write}
 use Rattle.regs.specs.Program.{Outcome}
@@ -101,3 +101,15 @@ decode-at (w ∷ v ∷ words) (suc k) e h =
     let p : suc k * 2 ≡ suc (suc (k * 2)) = omega arith in
     let q : suc (suc (k * 2)) + 1 ≡ suc (suc (k * 2 + 1)) = omega arith in
     rw (p, q) (decode-at words k e (omega arith))
+
+-- and of the log that a run left, entry k of the outcome
+pub entry-back : {S : Type 0} {o : Outcome S Reply} {before after : List ℕ} {r : Ran} → Leaves o before after r → Each Legal (o .log) → (k : ℕ) (e : Entry) → k < r .entries
+    → entry (getD after (k * 2) 0) (getD after (k * 2 + 1) 0) ≡ getD (o .log) k e
+entry-back {o = o} {before = before} {after = after} {r = r} l h k e within =
+    let n : length (encode (o .log)) ≡ r .entries * 2 = omega (arith, length-encode (o .log), l .entries) in
+    let t : take (r .entries * 2) after ≡ encode (o .log) = rw (l .log) (take-at (encode (o .log)) (drop (length (o .log) * 2) before) (r .entries * 2) n) in
+    let long : length (take (r .entries * 2) after) ≡ r .entries * 2 = ap length t ∙ n in
+    let at : getD (decode (take (r .entries * 2) after)) k e ≡ entry (getD (take (r .entries * 2) after) (k * 2) 0) (getD (take (r .entries * 2) after) (k * 2 + 1) 0) =
+    decode-at (take (r .entries * 2) after) k e (omega arith)
+    in
+    rw (← read-back l h, at, getD-take (r .entries * 2) after (k * 2) 0 (omega arith), getD-take (r .entries * 2) after (k * 2 + 1) 0 (omega arith))

@@ -3,13 +3,13 @@ use mathlib.Core.Path.{_≡_, refl, subst, sym}
 use mathlib.Core.Bool.{Bool, true, false, _&&_}
 use mathlib.Core.List.{List, [], _∷_}
 use mathlib.Core.Logic.{⊎-elim}
-use Prim.Native.Nat.{ℕ, zero, suc, _+_, _%_, _<_, _≤_}
+use Prim.Native.Nat.{ℕ, zero, suc, _%_, _<_}
 use native.Mathlib.Nat.{le-of-suc-le-suc, not-suc-le-zero, eq-or-lt-of-le}
 use native.Mathlib.Omega.{arith}
 use lib.Dec.{T, eqb, ltb, eqb→eq}
 use lib.ListN.{length, getD}
 use borrow.Author.Tests.{ltb-true}
-use Rattle.regs.specs.Registers.{offsets, row}
+use Rattle.regs.specs.Registers.{row}
 
 pub both-left : (a b : Bool) → T (a && b) → T a
 both-left true b t = tt

@@ -1,7 +1,6 @@
 -- `bus::put` meets its contract.
 use lib.Seq.{set-out}
 use mathlib.Core.Path.{sym}
-use borrow.Author.Tests.{le-ltb}
 use borrow.Author.Needs.{needs}
 use Rattle.bus.proofs.put.Statement.{statement}
 use Rattle.bus.proofs.put.Tie as tie
