@@ -24,7 +24,7 @@ pub enum Direction {
     Reading,
 }
 
-// The bus between two words.
+// The bus between two words. Its operations take it by value and hand back what it has become.
 pub enum Bus {
     Idle,
     Busy(Direction),

@@ -2,7 +2,7 @@
 --     LegalB t       every access of the behaviour t, whatever is read, is one that the table of registers allows
 --     LegalP p       so is every access of the program p, whatever legal behaviour follows it
 --     legal-log      so the log of an outcome is legal
--- A function of a driver has a lemma `f-legal : .. → LegalP (f ..)`, whose proof is `λ n k h. search (legal, ..)` with the lemmas of the functions it calls.
+-- A function f of a driver has a lemma, LegalP of its calls, whose proof is `search` with the rules `legal` and the lemmas of the functions that f calls.
 use Prim.Native.Nat.{ℕ, zero, suc, _/_}
 use mathlib.Core.Bool.{Bool, true, false}
 use mathlib.Core.List.{List, [], _∷_}
