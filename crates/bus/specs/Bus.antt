@@ -8,7 +8,7 @@ use Rattle.regs.specs.declared.access.Entry.{Entry}
 use Rattle.regs.specs.declared.access.Entry.the-variants.{Read, Write, Marked}
 use Rattle.regs.specs.Program.{if_then_else_}
 use Rattle.regs.specs.Registers.{TAR, DATA-CMD}
-use Rattle.regs.specs.Fields.{b2n, dat, cmd, stop, restart, address-field}
+use Rattle.regs.specs.Fields.{dat, cmd, stop, restart, address-field}
 use Rattle.bus.specs.declared.Direction.{Direction}
 use Rattle.bus.specs.declared.Direction.the-variants.{Writing, Reading}
 use Rattle.bus.specs.declared.Bus.{Bus}
@@ -35,6 +35,10 @@ same Reading Reading = true
 
 abbrev pub direction-of : ℕ → Direction
 direction-of w = if cmd w then Reading else Writing
+
+abbrev pub is-idle : Bus → Bool
+is-idle Idle = true
+is-idle (Busy d) = false
 
 -- a START or a RESTART, and the address byte
 abbrev pub addressed : Sign → ℕ → Direction → List Sign

@@ -1,2 +1,3 @@
 -- The bus: what a log makes of it.
 pub mod Bus
+pub mod Placed

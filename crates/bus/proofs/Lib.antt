@@ -1,0 +1,2 @@
+-- Laws of the sequence that a log makes.
+pub mod Sequence
