@@ -1,0 +1,6 @@
+-- src/i2c.rs as programs, and what two of its transfers make of the bus.
+pub mod Driver
+pub mod Blocking
+pub mod Async
+pub mod Operations
+pub mod Transfer
