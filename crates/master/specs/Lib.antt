@@ -4,3 +4,5 @@ pub mod Blocking
 pub mod Async
 pub mod Operations
 pub mod Transfer
+pub mod Sequence
+pub mod Demand3

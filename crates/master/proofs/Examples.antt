@@ -1,0 +1,130 @@
+-- Runs, computed: corners of the Rust, document 01's examples (g), (h) and (j), and what happens without each premise of demand 3.
+use Prim.Native.Nat.{ℕ, zero, suc}
+use mathlib.Core.Path.{_≡_, refl}
+use mathlib.Core.List.{List, [], _∷_}
+use lib.Dec.{ltb, ltb→lt, T}
+use Rattle.regs.specs.declared.access.Entry.{Entry}
+use Rattle.regs.specs.declared.access.Entry.the-variants.{Read, Write, Marked}
+use Rattle.regs.specs.declared.answers.AbortReason.the-variants.{NoAcknowledge, ArbitrationLoss, Other}
+use Rattle.regs.specs.declared.answers.Refusal.the-variants.{AddressOutOfRange, InvalidReadBufferLength, InvalidWriteBufferLength, Abort, TxLevelOutOfRange}
+use Rattle.regs.specs.declared.answers.Answer.the-variants.{Accepted, Refused}
+use Rattle.regs.specs.declared.answers.Reply.{Reply}
+use Rattle.regs.specs.declared.answers.Reply.the-variants.{Answered, OutOfReadings, LogFull}
+use Rattle.regs.specs.Registers.{DATA-CMD, CLR-STOP-DET}
+use Rattle.regs.specs.Program.{Outcome, outcome, turns, rounds, behaviour}
+use Rattle.bus.specs.Bus.{Sign, START, RESTART, STOP, address-byte, written, read-slot, signs, written-to, bus-sequence}
+use Rattle.master.specs.Driver.{setup, tx-fifo-capacity, tx-fifo-full, rx-fifo-len, read-and-clear-abort-reason}
+use Rattle.master.specs.Blocking.{read-blocking-bytes, read-blocking-internal, write-blocking-bytes, write-blocking-internal}
+use Rattle.master.specs.Async.{wait-stop-det, queue-batch, fetch-bytes, read-async-internal, fill, write-async-internal}
+use Rattle.master.specs.Operations.{Operation, writes, reads, Transfer, read, write, write-read, transaction, Mode, blocking, async}
+use Rattle.master.specs.Transfer.{each-operation, transfer, blocking-read, blocking-write, blocking-write-read, blocking-transaction, read-async, write-async, write-read-async, transaction-async}
+
+-- what a transfer to an address leaves on these readings, with room for 100 entries and a buffer of 3 bytes
+abbrev left : Mode → ℕ → Transfer ℕ → List ℕ → Outcome (Unit {0}) Reply
+left m address x rs = outcome Answered LogFull OutOfReadings (behaviour (transfer m address x) 100) 100 rs (0 ∷ 0 ∷ 0 ∷ []) tt
+
+-- it is accepted, and makes this sequence
+abbrev Makes : Outcome (Unit {0}) Reply → List Sign → Type 0
+Makes o ss = (o .answer ≡ Answered Accepted) × (bus-sequence (o .log) ≡ ss)
+
+-- it is accepted, and writes these words to DATA_CMD
+abbrev Words : Outcome (Unit {0}) Reply → List ℕ → Type 0
+Words o ws = (o .answer ≡ Answered Accepted) × (written-to DATA-CMD (o .log) ≡ ws)
+
+-- document 01, "Proved examples"
+pub record Papers : Type 0 where
+  -- (g) one-byte read word 0x700
+  pub g-blocking : Words (left blocking 0x50 (read 1) (0 ∷ 1 ∷ 0xAA ∷ [])) (0x700 ∷ [])
+  pub g-async : Words (left async 0x50 (read 1) (0 ∷ 1 ∷ 0 ∷ 0xAA ∷ 0 ∷ 0x200 ∷ 0 ∷ [])) (0x700 ∷ [])
+  -- (h) last byte 0x5A written: 0x25A
+  pub h-blocking : Words (left blocking 0x50 (write (0x5A ∷ [])) (0x10 ∷ 0 ∷ 0x200 ∷ 0 ∷ [])) (0x25A ∷ [])
+  pub h-async : Words (left async 0x50 (write (0x5A ∷ [])) (0 ∷ 0 ∷ 0x200 ∷ 0 ∷ [])) (0x25A ∷ [])
+  -- (j) address 0x7F accepted, 0x80 is 6
+  pub j-accepted : Makes (left blocking 0x7F (read 1) (0 ∷ 1 ∷ 0xAA ∷ [])) (START ∷ address-byte 0xFF ∷ read-slot ∷ STOP ∷ [])
+  pub j-refused : (left blocking 0x80 (read 1) [] .answer ≡ Answered (Refused (AddressOutOfRange 0x80))) × (left blocking 0x80 (read 1) [] .log ≡ [])
+  pub j-refused-async : (left async 0x80 (read 1) [] .answer ≡ Answered (Refused (AddressOutOfRange 0x80))) × (left async 0x80 (read 1) [] .log ≡ [])
+
+pub papers : Papers
+unfolding outcome turns rounds setup tx-fifo-capacity tx-fifo-full rx-fifo-len read-and-clear-abort-reason read-blocking-bytes read-blocking-internal write-blocking-bytes write-blocking-internal wait-stop-det queue-batch fetch-bytes read-async-internal fill write-async-internal each-operation blocking-read blocking-write blocking-write-read blocking-transaction read-async write-async write-read-async transaction-async signs written-to
+papers = record {
+  g-blocking = (refl, refl);
+  g-async = (refl, refl);
+  h-blocking = (refl, refl);
+  h-async = (refl, refl);
+  j-accepted = (refl, refl);
+  j-refused = (refl, refl);
+  j-refused-async = (refl, refl);
+}
+
+-- corners of the Rust
+pub record Corners : Type 0 where
+  -- an async read of 3 bytes: a round of no words where the FIFO is full, one of two with a pending poll, one of one
+  pub three-rounds : Makes (left async 0x50 (read 3) (16 ∷ 0 ∷ 0 ∷ 14 ∷ 1 ∷ 0 ∷ 0 ∷ 2 ∷ 0 ∷ 0xAA ∷ 0xBB ∷ 0 ∷ 1 ∷ 0 ∷ 0xCC ∷ 0 ∷ 0x200 ∷ 0 ∷ [])) (START ∷ address-byte 0xA1 ∷ read-slot ∷ read-slot ∷ read-slot ∷ STOP ∷ [])
+  pub three-bytes : left async 0x50 (read 3) (16 ∷ 0 ∷ 0 ∷ 14 ∷ 1 ∷ 0 ∷ 0 ∷ 2 ∷ 0 ∷ 0xAA ∷ 0xBB ∷ 0 ∷ 1 ∷ 0 ∷ 0xCC ∷ 0 ∷ 0x200 ∷ 0 ∷ []) .buffer ≡ 0xAA ∷ 0xBB ∷ 0xCC ∷ []
+  -- an async write that fills the FIFO exactly goes round once more, and then leaves both loops
+  pub exact-fill : Makes (left async 0x50 (write (0x11 ∷ 0x22 ∷ [])) (14 ∷ 0 ∷ 16 ∷ 0 ∷ 0 ∷ 15 ∷ 15 ∷ 0 ∷ 0x200 ∷ 0 ∷ [])) (START ∷ address-byte 0xA0 ∷ written 0x11 ∷ written 0x22 ∷ STOP ∷ [])
+  -- a write-read, and the transaction of the same
+  pub write-read-pair : Makes (left blocking 0x50 (write-read (0x11 ∷ []) 2) (0x10 ∷ 0 ∷ 16 ∷ 3 ∷ 0 ∷ 0 ∷ 1 ∷ 0xAA ∷ 0 ∷ 1 ∷ 0xBB ∷ [])) (START ∷ address-byte 0xA0 ∷ written 0x11 ∷ RESTART ∷ address-byte 0xA1 ∷ read-slot ∷ read-slot ∷ STOP ∷ [])
+  pub transaction-pair : Makes (left async 0x50 (transaction (writes (0x11 ∷ []) ∷ reads 1 ∷ reads 1 ∷ [])) (0 ∷ 0 ∷ 1 ∷ 0 ∷ 0xAA ∷ 0 ∷ 1 ∷ 0 ∷ 0xBB ∷ 0 ∷ 0x200 ∷ 0 ∷ [])) (START ∷ address-byte 0xA0 ∷ written 0x11 ∷ RESTART ∷ address-byte 0xA1 ∷ read-slot ∷ read-slot ∷ STOP ∷ [])
+  -- a read starts in the lent buffer where the reads before it ended
+  pub second-read-behind : left blocking 0x50 (transaction (reads 1 ∷ writes (0x11 ∷ []) ∷ reads 2 ∷ [])) (0 ∷ 1 ∷ 0xAA ∷ 0x10 ∷ 0 ∷ 0 ∷ 1 ∷ 0xBB ∷ 0 ∷ 1 ∷ 0xCC ∷ []) .buffer ≡ 0xAA ∷ 0xBB ∷ 0xCC ∷ []
+  -- bit 3, a data byte not acknowledged, is no NoAcknowledge; the write still waits for STOP, and clears it
+  pub data-not-acknowledged : left blocking 0x50 (write (0x11 ∷ 0x22 ∷ [])) (0x10 ∷ 8 ∷ 0 ∷ 0x200 ∷ 0 ∷ []) .answer ≡ Answered (Refused (Abort (Other 8)))
+  -- an aborted blocking read returns without clearing STOP_DET
+  pub read-not-acknowledged : left blocking 0x50 (read 1) (0 ∷ 0 ∷ 1 ∷ 0 ∷ []) .log ≡ Write 0x6C 0 ∷ Write 0x04 0x50 ∷ Write 0x6C 1 ∷ Read 0x74 0 ∷ Write 0x10 0x700 ∷ Read 0x78 0 ∷ Read 0x80 1 ∷ Read 0x54 0 ∷ []
+  -- an abort first seen in `wait_stop_det` wins, and CLR_STOP_DET is still read
+  pub late-abort : (left async 0x50 (write (0x11 ∷ [])) (0 ∷ 0x1000 ∷ 0 ∷ 0 ∷ []) .answer ≡ Answered (Refused (Abort ArbitrationLoss))) × (left async 0x50 (write (0x11 ∷ [])) (0 ∷ 0x1000 ∷ 0 ∷ 0 ∷ []) .log ≡ Write 0x6C 0 ∷ Write 0x04 0x50 ∷ Write 0x6C 1 ∷ Read 0x74 0 ∷ Write 0x10 0x211 ∷ Read 0x80 0x1000 ∷ Read 0x54 0 ∷ Read 0x60 0 ∷ [])
+  -- TXFLR above 16
+  pub level-refused : left async 0x50 (read 1) (17 ∷ []) .answer ≡ Answered (Refused (TxLevelOutOfRange 17))
+  -- an empty read is met after `setup`
+  pub empty-read : (left async 0x50 (read 0) [] .answer ≡ Answered (Refused InvalidReadBufferLength)) × (left async 0x50 (read 0) [] .log ≡ Write 0x6C 0 ∷ Write 0x04 0x50 ∷ Write 0x6C 1 ∷ [])
+  pub empty-write : left blocking 0x50 (write []) [] .answer ≡ Answered (Refused InvalidWriteBufferLength)
+
+pub corners : Corners
+unfolding outcome turns rounds setup tx-fifo-capacity tx-fifo-full rx-fifo-len read-and-clear-abort-reason read-blocking-bytes read-blocking-internal write-blocking-bytes write-blocking-internal wait-stop-det queue-batch fetch-bytes read-async-internal fill write-async-internal each-operation blocking-read blocking-write blocking-write-read blocking-transaction read-async write-async write-read-async transaction-async signs written-to
+corners = record {
+  three-rounds = (refl, refl);
+  three-bytes = refl;
+  exact-fill = (refl, refl);
+  write-read-pair = (refl, refl);
+  transaction-pair = (refl, refl);
+  second-read-behind = refl;
+  data-not-acknowledged = refl;
+  read-not-acknowledged = refl;
+  late-abort = (refl, refl);
+  level-refused = refl;
+  empty-read = (refl, refl);
+  empty-write = refl;
+}
+
+-- each premise of demand 3 is needed: without it two different transfers make one sequence
+pub record Needed : Type 0 where
+  -- one word is queued and two or three bytes are said to be there: a read of 2 and a read of 3 make one sequence, with no STOP
+  pub levels : Makes (left async 0x50 (read 2) (15 ∷ 2 ∷ 0 ∷ 0xAA ∷ 0xBB ∷ 0 ∷ 0x200 ∷ 0 ∷ [])) (START ∷ address-byte 0xA1 ∷ read-slot ∷ []) × Makes (left async 0x50 (read 3) (15 ∷ 3 ∷ 0 ∷ 0xAA ∷ 0xBB ∷ 0xCC ∷ 0 ∷ 0x200 ∷ 0 ∷ [])) (START ∷ address-byte 0xA1 ∷ read-slot ∷ [])
+  -- an empty async write before a read: the sequence of the read alone
+  pub none-empty : Makes (left async 0x50 (transaction (writes [] ∷ reads 1 ∷ [])) (0 ∷ 0 ∷ 1 ∷ 0 ∷ 0xAA ∷ 0 ∷ 0x200 ∷ 0 ∷ [])) (START ∷ address-byte 0xA1 ∷ read-slot ∷ STOP ∷ []) × Makes (left async 0x50 (transaction (reads 1 ∷ [])) (0 ∷ 1 ∷ 0 ∷ 0xAA ∷ 0 ∷ 0x200 ∷ 0 ∷ [])) (START ∷ address-byte 0xA1 ∷ read-slot ∷ STOP ∷ [])
+  -- an empty async write at the end: no STOP is asked for, and one is waited for
+  pub none-empty-last : Makes (left async 0x50 (transaction (reads 1 ∷ writes [] ∷ [])) (0 ∷ 1 ∷ 0 ∷ 0xAA ∷ 0 ∷ 0 ∷ 0x200 ∷ 0 ∷ [])) (START ∷ address-byte 0xA1 ∷ read-slot ∷ [])
+  -- an async write of nothing: accepted, nothing on the bus
+  pub none-empty-alone : Makes (left async 0x50 (write []) (0 ∷ 0 ∷ 0x200 ∷ 0 ∷ [])) []
+  -- no operation: two addresses, one sequence
+  pub at-least-one : Makes (left blocking 0x10 (transaction []) []) [] × Makes (left blocking 0x11 (transaction []) []) []
+  -- and the async form makes no access, whatever the address
+  pub at-least-one-async : (address : ℕ) → Makes (left async address (transaction []) []) [] × (left async address (transaction []) [] .log ≡ [])
+  -- a number that is no byte: 0x100 written is a read word
+  pub of-bytes : Makes (left blocking 0x50 (write (0x100 ∷ [])) (0x10 ∷ 0 ∷ 0x200 ∷ 0 ∷ [])) (START ∷ address-byte 0xA1 ∷ read-slot ∷ STOP ∷ [])
+  -- an abort: a write of two bytes makes the sequence of its first alone, without STOP
+  pub succeeds : bus-sequence (left blocking 0x50 (write (0x11 ∷ 0x22 ∷ [])) (0x10 ∷ 1 ∷ 0 ∷ 0x200 ∷ 0 ∷ []) .log) ≡ bus-sequence (left blocking 0x50 (write (0x11 ∷ 0x33 ∷ [])) (0x10 ∷ 1 ∷ 0 ∷ 0x200 ∷ 0 ∷ []) .log)
+
+pub needed : Needed
+unfolding outcome turns rounds setup tx-fifo-capacity tx-fifo-full rx-fifo-len read-and-clear-abort-reason read-blocking-bytes read-blocking-internal write-blocking-bytes write-blocking-internal wait-stop-det queue-batch fetch-bytes read-async-internal fill write-async-internal each-operation blocking-read blocking-write blocking-write-read blocking-transaction read-async write-async write-read-async transaction-async signs written-to
+needed = record {
+  levels = ((refl, refl), (refl, refl));
+  none-empty = ((refl, refl), (refl, refl));
+  none-empty-last = (refl, refl);
+  none-empty-alone = (refl, refl);
+  at-least-one = ((refl, refl), (refl, refl));
+  at-least-one-async = λ address. ((refl, refl), refl);
+  of-bytes = (refl, refl);
+  succeeds = refl;
+}

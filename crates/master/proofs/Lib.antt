@@ -1,0 +1,2 @@
+-- What is proved about the master's definitions alone.
+pub mod Examples
