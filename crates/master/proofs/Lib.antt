@@ -1,2 +1,5 @@
 -- What is proved about the master's definitions alone.
 pub mod Examples
+pub mod Words
+pub mod Sequence
+pub mod Apart
