@@ -3,3 +3,6 @@ pub mod Examples
 pub mod Words
 pub mod Sequence
 pub mod Apart
+pub mod Emits
+pub mod Quiet
+pub mod Issue
