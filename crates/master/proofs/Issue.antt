@@ -184,7 +184,7 @@ read-issues blocking offset len restart stop rest n k ended i =
 read-issues async offset len restart stop rest n k ended i =
     let stopped : (j : ℕ) → Emits (wait-stop-det (ok tt) stop n (λ res. try res n k)) j j rest = λ j. search quiet in
     let issues = rw (eq-eqb len len refl, and-true restart) at
-        (rounds-read offset len restart stop rest n (λ r. wait-stop-det r stop n (λ res. try res n k)) (λ reason i t due. abort-refused reason stop n k i t due) stopped n len i (omega arith)) in
+    (rounds-read offset len restart stop rest n (λ r. wait-stop-det r stop n (λ res. try res n k)) (λ reason i t due. abort-refused reason stop n k i t due) stopped n len i (omega arith)) in
     search emits-when
 
 pub write-issues : (mode : Mode) (bs : List ℕ) → Bytes bs → (stop : Bool) (rest : List ℕ) (n : ℕ) (k : Unit {0} → Does) (i : ℕ) → Emits (k tt) i i rest

@@ -6,3 +6,4 @@ pub mod Apart
 pub mod Emits
 pub mod Quiet
 pub mod Issue
+pub mod Demand3
