@@ -6,3 +6,5 @@ pub mod Refine
 pub mod Going
 pub mod Enough
 pub mod Spent
+pub mod Legal
+pub mod LegalExample
