@@ -33,7 +33,7 @@ use Rattle.master.proofs.Issue.{read-issues, write-issues, operations-i
 
 -- the level premise, place by place
 
-shifted : (c : Bool) (m n : ℕ) → (if c then suc m else m) + n ≡ m + (if c then suc n else n)
+pub shifted : (c : Bool) (m n : ℕ) → (if c then suc m else m) + n ≡ m + (if c then suc n else n)
 shifted true m n = omega arith
 shifted false m n = refl
 
@@ -122,11 +122,11 @@ of-bytes (transaction os) = operations-small os
 pub sequence-of-run : SequenceOfRun
 sequence-of-run r h =
     let x : Transfer ℕ = plain (r .arguments) in
-    let possible = all-possible (left-by r .log) 0 0 (λ before after v e. let f : level v + taken-in before ≤ issued-in before = h .levels before after v e in omega arith) in
+    let possible = all-possible (left-by r .log) 0 0 (λ before after v e. omega (arith, h .levels before after v e)) in
     let w = transfer-writes (r .mode) (suc (r .room)) (r .address) x (r .room) (r .readings) (r .buffer) (of-bytes (r .arguments)) (h .at-least-one) (h .succeeds) possible in
     rw (w .0, w .1, w .2) (words-make-sequence (r .address) (flagged x) (operations r) (h .at-least-one) (h .none-empty) (of-bytes (r .arguments)) (harmless x))
 
-not-nil : {A : Type 0} (x : A) (xs : List A) → x ∷ xs ≢ []
+pub not-nil : {A : Type 0} (x : A) (xs : List A) → x ∷ xs ≢ []
 not-nil x xs e = let z : _≡_ {A = ℕ} 0 1 = cc in omega arith
 
 some-joined-to : (o : Operation ℕ) (os : List (Operation ℕ)) → joined-to o os ≢ []

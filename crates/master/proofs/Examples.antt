@@ -1,16 +1,15 @@
--- Runs, computed: corners of the Rust, document 01's examples (g), (h) and (j), and what happens without each premise of demand 3.
+-- Runs, computed: examples (g), (h) and (j) of document 01, corners of the Rust, and what happens without demand 3's premises.
 use Prim.Native.Nat.{ℕ, zero, suc}
 use mathlib.Core.Path.{_≡_, refl}
 use mathlib.Core.List.{List, [], _∷_}
-use lib.Dec.{ltb, ltb→lt, T}
 use Rattle.regs.specs.declared.access.Entry.{Entry}
 use Rattle.regs.specs.declared.access.Entry.the-variants.{Read, Write, Marked}
-use Rattle.regs.specs.declared.answers.AbortReason.the-variants.{NoAcknowledge, ArbitrationLoss, Other}
+use Rattle.regs.specs.declared.answers.AbortReason.the-variants.{ArbitrationLoss, Other}
 use Rattle.regs.specs.declared.answers.Refusal.the-variants.{AddressOutOfRange, InvalidReadBufferLength, InvalidWriteBufferLength, Abort, TxLevelOutOfRange}
 use Rattle.regs.specs.declared.answers.Answer.the-variants.{Accepted, Refused}
 use Rattle.regs.specs.declared.answers.Reply.{Reply}
 use Rattle.regs.specs.declared.answers.Reply.the-variants.{Answered, OutOfReadings, LogFull}
-use Rattle.regs.specs.Registers.{DATA-CMD, CLR-STOP-DET}
+use Rattle.regs.specs.Registers.{DATA-CMD}
 use Rattle.regs.specs.Program.{Outcome, outcome, turns, rounds, behaviour}
 use Rattle.bus.specs.Bus.{Sign, START, RESTART, STOP, address-byte, written, read-slot, signs, written-to, bus-sequence}
 use Rattle.master.specs.Driver.{setup, tx-fifo-capacity, tx-fifo-full, rx-fifo-len, read-and-clear-abort-reason}
@@ -74,6 +73,8 @@ pub record Corners : Type 0 where
   pub read-not-acknowledged : left blocking 0x50 (read 1) (0 ∷ 0 ∷ 1 ∷ 0 ∷ []) .log ≡ Write 0x6C 0 ∷ Write 0x04 0x50 ∷ Write 0x6C 1 ∷ Read 0x74 0 ∷ Write 0x10 0x700 ∷ Read 0x78 0 ∷ Read 0x80 1 ∷ Read 0x54 0 ∷ []
   -- an abort first seen in `wait_stop_det` wins, and CLR_STOP_DET is still read
   pub late-abort : (left async 0x50 (write (0x11 ∷ [])) (0 ∷ 0x1000 ∷ 0 ∷ 0 ∷ []) .answer ≡ Answered (Refused (Abort ArbitrationLoss))) × (left async 0x50 (write (0x11 ∷ [])) (0 ∷ 0x1000 ∷ 0 ∷ 0 ∷ []) .log ≡ Write 0x6C 0 ∷ Write 0x04 0x50 ∷ Write 0x6C 1 ∷ Read 0x74 0 ∷ Write 0x10 0x211 ∷ Read 0x80 0x1000 ∷ Read 0x54 0 ∷ Read 0x60 0 ∷ [])
+  -- a level above what was asked for: no more is taken than was asked for
+  pub no-more-than-asked : left async 0x50 (read 1) (0 ∷ 3 ∷ 0 ∷ 0xAA ∷ 0 ∷ 0x200 ∷ 0 ∷ []) .log ≡ Write 0x6C 0 ∷ Write 0x04 0x50 ∷ Write 0x6C 1 ∷ Read 0x74 0 ∷ Write 0x10 0x700 ∷ Read 0x78 3 ∷ Read 0x80 0 ∷ Read 0x10 0xAA ∷ Read 0x80 0 ∷ Read 0x34 0x200 ∷ Read 0x60 0 ∷ []
   -- TXFLR above 16
   pub level-refused : left async 0x50 (read 1) (17 ∷ []) .answer ≡ Answered (Refused (TxLevelOutOfRange 17))
   -- an empty read is met after `setup`
@@ -92,39 +93,30 @@ corners = record {
   data-not-acknowledged = refl;
   read-not-acknowledged = refl;
   late-abort = (refl, refl);
+  no-more-than-asked = refl;
   level-refused = refl;
   empty-read = (refl, refl);
   empty-write = refl;
 }
 
--- each premise of demand 3 is needed: without it two different transfers make one sequence
-pub record Needed : Type 0 where
-  -- one word is queued and two or three bytes are said to be there: a read of 2 and a read of 3 make one sequence, with no STOP
-  pub levels : Makes (left async 0x50 (read 2) (15 ∷ 2 ∷ 0 ∷ 0xAA ∷ 0xBB ∷ 0 ∷ 0x200 ∷ 0 ∷ [])) (START ∷ address-byte 0xA1 ∷ read-slot ∷ []) × Makes (left async 0x50 (read 3) (15 ∷ 3 ∷ 0 ∷ 0xAA ∷ 0xBB ∷ 0xCC ∷ 0 ∷ 0x200 ∷ 0 ∷ [])) (START ∷ address-byte 0xA1 ∷ read-slot ∷ [])
-  -- an empty async write before a read: the sequence of the read alone
-  pub none-empty : Makes (left async 0x50 (transaction (writes [] ∷ reads 1 ∷ [])) (0 ∷ 0 ∷ 1 ∷ 0 ∷ 0xAA ∷ 0 ∷ 0x200 ∷ 0 ∷ [])) (START ∷ address-byte 0xA1 ∷ read-slot ∷ STOP ∷ []) × Makes (left async 0x50 (transaction (reads 1 ∷ [])) (0 ∷ 1 ∷ 0 ∷ 0xAA ∷ 0 ∷ 0x200 ∷ 0 ∷ [])) (START ∷ address-byte 0xA1 ∷ read-slot ∷ STOP ∷ [])
-  -- an empty async write at the end: no STOP is asked for, and one is waited for
-  pub none-empty-last : Makes (left async 0x50 (transaction (reads 1 ∷ writes [] ∷ [])) (0 ∷ 1 ∷ 0 ∷ 0xAA ∷ 0 ∷ 0 ∷ 0x200 ∷ 0 ∷ [])) (START ∷ address-byte 0xA1 ∷ read-slot ∷ [])
-  -- an async write of nothing: accepted, nothing on the bus
-  pub none-empty-alone : Makes (left async 0x50 (write []) (0 ∷ 0 ∷ 0x200 ∷ 0 ∷ [])) []
-  -- no operation: two addresses, one sequence
-  pub at-least-one : Makes (left blocking 0x10 (transaction []) []) [] × Makes (left blocking 0x11 (transaction []) []) []
-  -- and the async form makes no access, whatever the address
-  pub at-least-one-async : (address : ℕ) → Makes (left async address (transaction []) []) [] × (left async address (transaction []) [] .log ≡ [])
+-- what happens without demand 3's premises, beside what proofs/Needed.antt refutes
+pub record Without : Type 0 where
   -- a number that is no byte: 0x100 written is a read word
-  pub of-bytes : Makes (left blocking 0x50 (write (0x100 ∷ [])) (0x10 ∷ 0 ∷ 0x200 ∷ 0 ∷ [])) (START ∷ address-byte 0xA1 ∷ read-slot ∷ STOP ∷ [])
-  -- an abort: a write of two bytes makes the sequence of its first alone, without STOP
-  pub succeeds : bus-sequence (left blocking 0x50 (write (0x11 ∷ 0x22 ∷ [])) (0x10 ∷ 1 ∷ 0 ∷ 0x200 ∷ 0 ∷ []) .log) ≡ bus-sequence (left blocking 0x50 (write (0x11 ∷ 0x33 ∷ [])) (0x10 ∷ 1 ∷ 0 ∷ 0x200 ∷ 0 ∷ []) .log)
+  pub no-byte : Makes (left blocking 0x50 (write (0x100 ∷ [])) (0x10 ∷ 0 ∷ 0x200 ∷ 0 ∷ [])) (START ∷ address-byte 0xA1 ∷ read-slot ∷ STOP ∷ [])
+  -- an empty async write at the end: no STOP is asked for, and one is waited for
+  pub empty-last : Makes (left async 0x50 (transaction (reads 1 ∷ writes [] ∷ [])) (0 ∷ 1 ∷ 0 ∷ 0xAA ∷ 0 ∷ 0 ∷ 0x200 ∷ 0 ∷ [])) (START ∷ address-byte 0xA1 ∷ read-slot ∷ [])
+  -- an async write of nothing: accepted, nothing on the bus
+  pub empty-alone : Makes (left async 0x50 (write []) (0 ∷ 0 ∷ 0x200 ∷ 0 ∷ [])) []
+  -- no operations: the blocking form runs `setup`, the async form makes no access, whatever the address
+  pub no-operations : left blocking 0x50 (transaction []) [] .log ≡ Write 0x6C 0 ∷ Write 0x04 0x50 ∷ Write 0x6C 1 ∷ []
+  pub no-operations-async : (address : ℕ) → (left async address (transaction []) [] .answer ≡ Answered Accepted) × (left async address (transaction []) [] .log ≡ [])
 
-pub needed : Needed
+pub without : Without
 unfolding outcome turns rounds setup tx-fifo-capacity tx-fifo-full rx-fifo-len read-and-clear-abort-reason read-blocking-bytes read-blocking-internal write-blocking-bytes write-blocking-internal wait-stop-det queue-batch fetch-bytes read-async-internal fill write-async-internal each-operation blocking-read blocking-write blocking-write-read blocking-transaction read-async write-async write-read-async transaction-async signs written-to
-needed = record {
-  levels = ((refl, refl), (refl, refl));
-  none-empty = ((refl, refl), (refl, refl));
-  none-empty-last = (refl, refl);
-  none-empty-alone = (refl, refl);
-  at-least-one = ((refl, refl), (refl, refl));
-  at-least-one-async = λ address. ((refl, refl), refl);
-  of-bytes = (refl, refl);
-  succeeds = refl;
+without = record {
+  no-byte = (refl, refl);
+  empty-last = (refl, refl);
+  empty-alone = (refl, refl);
+  no-operations = refl;
+  no-operations-async = λ address. (refl, refl);
 }

@@ -7,3 +7,4 @@ pub mod Emits
 pub mod Quiet
 pub mod Issue
 pub mod Demand3
+pub mod Needed

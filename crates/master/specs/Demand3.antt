@@ -85,22 +85,27 @@ issued-in (Marked x ∷ log) = issued-in log
 abbrev pub LevelsPossible : List Entry → Type 0
 LevelsPossible log = (before after : List Entry) (v : ℕ) → log ≡ before ++ (Read RXFLR v ∷ after) → level v + taken-in before ≤ issued-in before
 
-pub record Premises (r : Run) : Type 0 where
-  pub succeeds : left-by r .answer ≡ Answered Accepted
-  pub at-least-one : operations r ≢ []
-  pub none-empty : Each NotEmpty (operations r)
-  pub levels : LevelsPossible (left-by r .log)
+-- the premises, of what a transfer left and of its operations
+pub record Premises (left : Outcome (Unit {0}) Reply) (os : List (Operation ℕ)) : Type 0 where
+  pub succeeds : left .answer ≡ Answered Accepted
+  pub at-least-one : os ≢ []
+  pub none-empty : Each NotEmpty os
+  pub levels : LevelsPossible (left .log)
+
+-- under such premises two runs make the same sequence exactly if their addresses and their joined operations are the same
+abbrev pub SameIf : (Outcome (Unit {0}) Reply → List (Operation ℕ) → Type 0) → Type 0
+SameIf P = (r s : Run) → P (left-by r) (operations r) → P (left-by s) (operations s)
+    → (bus-sequence (left-by r .log) ≡ bus-sequence (left-by s .log)) ↔ ((r .address ≡ s .address) × (joined (operations r) ≡ joined (operations s)))
 
 -- the demand
 abbrev pub SameSequence : Type 0
-SameSequence = (r s : Run) → Premises r → Premises s
-    → (bus-sequence (left-by r .log) ≡ bus-sequence (left-by s .log)) ↔ ((r .address ≡ s .address) × (joined (operations r) ≡ joined (operations s)))
+SameSequence = SameIf Premises
 
 -- each sequence is the one that its own address and joined operations make alone
 abbrev pub SequenceOfRun : Type 0
-SequenceOfRun = (r : Run) → Premises r → bus-sequence (left-by r .log) ≡ sequence (r .address) (joined (operations r))
+SequenceOfRun = (r : Run) → Premises (left-by r) (operations r) → bus-sequence (left-by r .log) ≡ sequence (r .address) (joined (operations r))
 
 -- and it tells both
 abbrev pub ToldByRun : Type 0
-ToldByRun = (r : Run) → Premises r
+ToldByRun = (r : Run) → Premises (left-by r) (operations r)
     → (told (bus-sequence (left-by r .log)) .address ≡ r .address) × (told (bus-sequence (left-by r .log)) .operations ≡ joined (operations r))
