@@ -1,5 +1,4 @@
 -- What is proved about the master's definitions alone.
-pub mod Examples
 pub mod Words
 pub mod Sequence
 pub mod Apart
@@ -8,3 +7,5 @@ pub mod Quiet
 pub mod Issue
 pub mod Demand3
 pub mod Needed
+pub mod Legal
+pub mod Calls

@@ -17,7 +17,7 @@ use Rattle.regs.specs.Program.{if_then_else_, Outcome, outcome, behaviour}
 use Rattle.regs.specs.Log.{Each}
 use Rattle.bus.specs.Bus.{Sign, bus-sequence}
 use Rattle.master.specs.Operations.{Operation, writes, reads, Transfer, read, write, write-read, transaction, Mode, operations-of}
-use Rattle.master.specs.Transfer.{transfer}
+use Rattle.master.specs.Transfer.{transfer, within}
 use Rattle.master.specs.Sequence.{joined, sequence, told}
 
 -- a byte: what a call's `&[u8]` holds
@@ -109,3 +109,12 @@ SequenceOfRun = (r : Run) → Premises (left-by r) (operations r) → bus-sequen
 abbrev pub ToldByRun : Type 0
 ToldByRun = (r : Run) → Premises (left-by r) (operations r)
     → (told (bus-sequence (left-by r .log)) .address ≡ r .address) × (told (bus-sequence (left-by r .log)) .operations ≡ joined (operations r))
+
+-- The same of the calls, each of which is a transfer within limits (`within`, number 20), whatever the limits say: an accepted call is within them.
+abbrev pub left-by-call : Bool → Run → Outcome (Unit {0}) Reply
+left-by-call limits r =
+    outcome Answered LogFull OutOfReadings (behaviour (within limits (transfer (r .mode) (r .address) (plain (r .arguments)))) (r .room)) (r .room) (r .readings) (r .buffer) tt
+
+abbrev pub SameSequenceOfCalls : Type 0
+SameSequenceOfCalls = (l m : Bool) (r s : Run) → Premises (left-by-call l r) (operations r) → Premises (left-by-call m s) (operations s)
+    → (bus-sequence (left-by-call l r .log) ≡ bus-sequence (left-by-call m s .log)) ↔ ((r .address ≡ s .address) × (joined (operations r) ≡ joined (operations s)))

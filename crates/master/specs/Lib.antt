@@ -6,3 +6,4 @@ pub mod Operations
 pub mod Transfer
 pub mod Sequence
 pub mod Demand3
+pub mod Examples

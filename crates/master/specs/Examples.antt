@@ -1,4 +1,4 @@
--- Runs, computed: examples (g), (h) and (j) of document 01, corners of the Rust, and what happens without demand 3's premises.
+-- Computed: examples (g), (h) and (j) of document 01, a sequence alone, corners of the Rust, and what happens without demand 3's premises.
 use Prim.Native.Nat.{ℕ, zero, suc}
 use mathlib.Core.Path.{_≡_, refl}
 use mathlib.Core.List.{List, [], _∷_}
@@ -17,6 +17,7 @@ use Rattle.master.specs.Blocking.{read-blocking-bytes, read-blocking-int
 use Rattle.master.specs.Async.{wait-stop-det, queue-batch, fetch-bytes, read-async-internal, fill, write-async-internal}
 use Rattle.master.specs.Operations.{Operation, writes, reads, Transfer, read, write, write-read, transaction, Mode, blocking, async}
 use Rattle.master.specs.Transfer.{each-operation, transfer, blocking-read, blocking-write, blocking-write-read, blocking-transaction, read-async, write-async, write-read-async, transaction-async}
+use Rattle.master.specs.Sequence.{joined, sequence-from, sequence, told}
 
 -- what a transfer to an address leaves on these readings, with room for 100 entries and a buffer of 3 bytes
 abbrev left : Mode → ℕ → Transfer ℕ → List ℕ → Outcome (Unit {0}) Reply
@@ -55,8 +56,25 @@ papers = record {
   j-refused-async = (refl, refl);
 }
 
+-- a sequence of joined operations, alone, and what it tells
+pub record Alone : Type 0 where
+  pub joins : joined (writes (0x11 ∷ []) ∷ writes (0x22 ∷ []) ∷ reads 1 ∷ reads 2 ∷ writes (0x33 ∷ []) ∷ []) ≡ writes (0x11 ∷ 0x22 ∷ []) ∷ reads 3 ∷ writes (0x33 ∷ []) ∷ []
+  pub makes : sequence 0x50 (writes (0x11 ∷ 0x22 ∷ []) ∷ reads 1 ∷ []) ≡ START ∷ address-byte 0xA0 ∷ written 0x11 ∷ written 0x22 ∷ RESTART ∷ address-byte 0xA1 ∷ read-slot ∷ STOP ∷ []
+  pub tells : told (START ∷ address-byte 0xA0 ∷ written 0x11 ∷ written 0x22 ∷ RESTART ∷ address-byte 0xA1 ∷ read-slot ∷ STOP ∷ []) .operations ≡ writes (0x11 ∷ 0x22 ∷ []) ∷ reads 1 ∷ []
+
+pub alone : Alone
+unfolding joined sequence-from told
+alone = record {
+  joins = refl;
+  makes = refl;
+  tells = refl;
+}
+
 -- corners of the Rust
 pub record Corners : Type 0 where
+  -- RESTART rides on the first word of a plain read, STOP on its last
+  pub two-bytes : Words (left blocking 0x50 (read 2) (0 ∷ 1 ∷ 0xAA ∷ 0 ∷ 1 ∷ 0xBB ∷ [])) (0x500 ∷ 0x300 ∷ [])
+  pub two-bytes-async : Words (left async 0x50 (read 2) (0 ∷ 2 ∷ 0 ∷ 0xAA ∷ 0xBB ∷ 0 ∷ 0x200 ∷ 0 ∷ [])) (0x500 ∷ 0x300 ∷ [])
   -- an async read of 3 bytes: a round of no words where the FIFO is full, one of two with a pending poll, one of one
   pub three-rounds : Makes (left async 0x50 (read 3) (16 ∷ 0 ∷ 0 ∷ 14 ∷ 1 ∷ 0 ∷ 0 ∷ 2 ∷ 0 ∷ 0xAA ∷ 0xBB ∷ 0 ∷ 1 ∷ 0 ∷ 0xCC ∷ 0 ∷ 0x200 ∷ 0 ∷ [])) (START ∷ address-byte 0xA1 ∷ read-slot ∷ read-slot ∷ read-slot ∷ STOP ∷ [])
   pub three-bytes : left async 0x50 (read 3) (16 ∷ 0 ∷ 0 ∷ 14 ∷ 1 ∷ 0 ∷ 0 ∷ 2 ∷ 0 ∷ 0xAA ∷ 0xBB ∷ 0 ∷ 1 ∷ 0 ∷ 0xCC ∷ 0 ∷ 0x200 ∷ 0 ∷ []) .buffer ≡ 0xAA ∷ 0xBB ∷ 0xCC ∷ []
@@ -84,6 +102,8 @@ pub record Corners : Type 0 where
 pub corners : Corners
 unfolding outcome turns rounds setup tx-fifo-capacity tx-fifo-full rx-fifo-len read-and-clear-abort-reason read-blocking-bytes read-blocking-internal write-blocking-bytes write-blocking-internal wait-stop-det queue-batch fetch-bytes read-async-internal fill write-async-internal each-operation blocking-read blocking-write blocking-write-read blocking-transaction read-async write-async write-read-async transaction-async signs written-to
 corners = record {
+  two-bytes = (refl, refl);
+  two-bytes-async = (refl, refl);
   three-rounds = (refl, refl);
   three-bytes = refl;
   exact-fill = (refl, refl);
