@@ -2,17 +2,15 @@
 use Prim.Native.Nat.{ℕ, zero, suc, _+_, _*_, _/_, _%_}
 use native.Mathlib.Omega.{arith}
 use native.Mathlib.Nat.{add-zero, zero-add, add-suc}
-use mathlib.Core.Path.{_≡_, refl, ap, sym, _∙_}
+use mathlib.Core.Path.{_≡_, refl}
 use mathlib.Core.Logic.{_≢_}
 use mathlib.Core.List.{List, [], _∷_, _++_, map, append-nil}
-use lib.Dec.{eqb}
 use lib.ListN.{replicate}
-use Rattle.regs.specs.Program.{if_then_else_}
 use Rattle.bus.specs.declared.Direction.{Direction}
 use Rattle.bus.specs.declared.Direction.the-variants.{Writing, Reading}
-use Rattle.bus.specs.Bus.{Sign, START, RESTART, STOP, address-byte, written, read-slot, direction-bit}
+use Rattle.bus.specs.Bus.{Sign, RESTART, written, read-slot, direction-bit}
 use Rattle.master.specs.Operations.{Operation, writes, reads}
-use Rattle.master.specs.Sequence.{direction, sequence-from, sequence, Told, ending, starting, told}
+use Rattle.master.specs.Sequence.{direction, sequence-from, sequence, told}
 
 told-bytes : (bs : List ℕ) (ss : List Sign)
     → told (map written bs ++ ss) ≡ record { bytes = bs ++ told ss .bytes; slots = told ss .slots; operations = told ss .operations; address = told ss .address }

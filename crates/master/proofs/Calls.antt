@@ -1,30 +1,14 @@
--- Demand 3 of the calls, `same-sequence-of-calls`, and how a call's arguments are those of a run.
+-- How the arguments of a call, numbers of a lent buffer beside kinds and lengths, are those of a run of demand 3.
 use Prim.Native.Nat.{ℕ, zero, suc, _<_}
-use native.Mathlib.Omega.{arith}
-use mathlib.Core.Path.{_≡_, refl, ap, ap₂}
+use mathlib.Core.Path.{_≡_, refl, ap}
 use mathlib.Core.Bool.{Bool, true, false}
 use mathlib.Core.List.{List, [], _∷_, map}
 use lib.Dec.{eqb}
 use lib.ListN.{take, drop}
-use Rattle.regs.specs.declared.answers.Answer.the-variants.{Accepted}
-use Rattle.regs.specs.declared.answers.Reply.the-variants.{Answered}
-use Rattle.regs.specs.Program.{if_then_else_, outcome}
+use Rattle.regs.specs.Program.{if_then_else_}
 use Rattle.regs.specs.Log.{Each}
-use Rattle.master.specs.Operations.{Operation, writes, reads, WRITE, listed}
-use Rattle.master.specs.Demand3.{Byte, values, plain-operation, Run, left-by, left-by-call, operations, Premises, SameSequenceOfCalls}
-use Rattle.master.proofs.Demand3.{same-sequence}
-
--- an accepted call was within its limits, and left what its transfer leaves
-pub within-accepted : (limits : Bool) (r : Run) → left-by-call limits r .answer ≡ Answered Accepted → left-by-call limits r ≡ left-by r
-unfolding outcome
-within-accepted true r good = refl
-within-accepted false r good = cc
-
-pub same-sequence-of-calls : SameSequenceOfCalls
-same-sequence-of-calls l m r s h k =
-    let p = within-accepted l r (h .succeeds) in
-    let q = within-accepted m s (k .succeeds) in
-    rw (p, q) (same-sequence r s (rw p at h) (rw q at k))
+use Rattle.master.specs.Operations.{writes, reads, WRITE, listed}
+use Rattle.master.specs.Demand3.{Byte, values, plain-operation}
 
 -- numbers below 256 are bytes
 pub bytes-of : (ns : List ℕ) → Each (λ n. n < 256) ns → List Byte

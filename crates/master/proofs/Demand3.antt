@@ -1,8 +1,8 @@
 -- Demand 3, proved: `same-sequence`, with `sequence-of-run` and `told-by-run` (specs/Demand3.antt has the statements).
-use Prim.Native.Nat.{ℕ, zero, suc, _+_, _%_, _^_, _≤_, _<_}
+use Prim.Native.Nat.{ℕ, zero, suc, _+_, _≤_, _<_}
 use native.Mathlib.Omega.{arith}
 use mathlib.Core.Path.{_≡_, refl, ap, ap₂, sym, _∙_}
-use mathlib.Core.Logic.{_≢_, _↔_}
+use mathlib.Core.Logic.{_≢_}
 use mathlib.Core.Bool.{Bool, true, false, not, _&&_}
 use mathlib.Core.List.{List, [], _∷_, _++_, map}
 use lib.Dec.{eqb, eqb→eq, ltb}
@@ -10,21 +10,22 @@ use borrow.Author.Tests.{ltb-true}
 use Rattle.regs.specs.declared.access.Entry.{Entry}
 use Rattle.regs.specs.declared.access.Entry.the-variants.{Read, Write, Marked}
 use Rattle.regs.specs.declared.answers.Refusal.the-variants.{AddressOutOfRange}
+use Rattle.regs.specs.declared.answers.Answer.{Answer}
 use Rattle.regs.specs.declared.answers.Answer.the-variants.{Accepted, Refused}
 use Rattle.regs.specs.declared.answers.Reply.{Reply}
-use Rattle.regs.specs.declared.answers.Reply.the-variants.{Answered, LogFull, OutOfReadings}
+use Rattle.regs.specs.declared.answers.Reply.the-variants.{Answered}
 use Rattle.regs.specs.Registers.{TAR, DATA-CMD, RXFLR, ENABLE}
 use Rattle.regs.specs.Fields.{address-field, cmd, level}
 use Rattle.regs.specs.Program as P
 use Rattle.regs.specs.Program.{if_then_else_, exit, when, ends, Outcome, outcome}
 use Rattle.regs.specs.Log.{Each}
 use Rattle.bus.specs.declared.Bus.the-variants.{Idle}
-use Rattle.bus.specs.Bus.{written-to, bus-sequence}
-use Rattle.master.specs.Driver.{setup}
+use Rattle.bus.specs.Bus.{written-to}
+use Rattle.master.specs.Driver.{Driver, setup}
 use Rattle.master.specs.Operations.{Operation, writes, reads, Transfer, read, write, write-read, transaction, Mode, blocking, async, operations-of}
-use Rattle.master.specs.Transfer.{blocking-read, blocking-write, blocking-write-read, blocking-transaction, read-async, write-async, write-read-async, transaction-async, transfer}
+use Rattle.master.specs.Transfer.{blocking-read, blocking-write, blocking-write-read, blocking-transaction, read-async, write-async, write-read-async, transaction-async, transfer, within}
 use Rattle.master.specs.Sequence.{joined-to, joined, sequence, told}
-use Rattle.master.specs.Demand3.{Byte, values, plain-operation, plain, Run, left-by, operations, taken-by, taken-in, issued-by, issued-in, LevelsPossible, Premises, SameSequence, SequenceOfRun, ToldByRun}
+use Rattle.master.specs.Demand3.{Byte, values, plain-operation, plain, operations, taken-by, taken-in, issued-by, issued-in, SameSequence, SequenceOfRun, ToldByRun}
 use Rattle.master.proofs.Words.{all-words}
 use Rattle.master.proofs.Sequence.{Bytes, OfBytes, AllHarmless, harmless-unset, words-make-sequence}
 use Rattle.master.proofs.Apart.{all-told}
@@ -119,12 +120,21 @@ of-bytes (transaction os) = operations-small os
 
 -- the claims
 
+-- an accepted call was within its limits, and left what its transfer leaves
+within-accepted : (limits : Bool) (p : Driver Answer) (n room : ℕ) (rs b : List ℕ) → after (within limits p n ends) room rs b .answer ≡ Answered Accepted
+    → after (within limits p n ends) room rs b ≡ after (p n ends) room rs b
+unfolding outcome
+within-accepted true p n room rs b good = refl
+within-accepted false p n room rs b good = cc
+
 pub sequence-of-run : SequenceOfRun
 sequence-of-run r h =
     let x : Transfer ℕ = plain (r .arguments) in
-    let possible = all-possible (left-by r .log) 0 0 (λ before after v e. omega (arith, h .levels before after v e)) in
-    let w = transfer-writes (r .mode) (suc (r .room)) (r .address) x (r .room) (r .readings) (r .buffer) (of-bytes (r .arguments)) (h .at-least-one) (h .succeeds) possible in
-    rw (w .0, w .1, w .2) (words-make-sequence (r .address) (flagged x) (operations r) (h .at-least-one) (h .none-empty) (of-bytes (r .arguments)) (harmless x))
+    let e = within-accepted (r .limits) (transfer (r .mode) (r .address) x) (suc (r .room)) (r .room) (r .readings) (r .buffer) (h .succeeds) in
+    let g = rw e at h in
+    let possible = all-possible _ 0 0 (λ before after v e. omega (arith, g .levels before after v e)) in
+    let w = transfer-writes (r .mode) (suc (r .room)) (r .address) x (r .room) (r .readings) (r .buffer) (of-bytes (r .arguments)) (h .at-least-one) (g .succeeds) possible in
+    rw (e, w .0, w .1, w .2) (words-make-sequence (r .address) (flagged x) (operations r) (h .at-least-one) (h .none-empty) (of-bytes (r .arguments)) (harmless x))
 
 pub not-nil : {A : Type 0} (x : A) (xs : List A) → x ∷ xs ≢ []
 not-nil x xs e = let z : _≡_ {A = ℕ} 0 1 = cc in omega arith

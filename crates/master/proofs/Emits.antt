@@ -1,7 +1,6 @@
 -- The words that a behaviour writes to DATA_CMD wherever it is accepted and the levels that it reads are possible.
 use Prim.Native.Nat.{ℕ, zero, suc, _+_, _≤_}
-use native.Mathlib.Omega.{arith}
-use mathlib.Core.Path.{_≡_, refl, ap, ap₂, sym}
+use mathlib.Core.Path.{_≡_, refl, ap₂, sym}
 use mathlib.Core.Bool.{Bool, true, false}
 use mathlib.Core.List.{List, [], _∷_}
 use lib.Dec.{eqb, T}

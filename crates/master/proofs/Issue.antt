@@ -1,27 +1,27 @@
 -- Each function of the driver issues the words of its operation, whatever comes after it.
 use Prim.Native.Nat.{ℕ, zero, suc, _+_, _-_, _/_, _%_, _^_, _≤_, _<_, min}
 use native.Mathlib.Omega.{arith}
-use mathlib.Core.Path.{_≡_, refl, sym, _∙_}
-use mathlib.Core.Bool.{Bool, true, false, not, _&&_, _||_, and-true, and-false, and-comm}
+use mathlib.Core.Path.{_≡_, refl}
+use mathlib.Core.Bool.{Bool, true, false, not, _&&_, and-true, and-false, and-comm}
 use mathlib.Core.List.{List, [], _∷_, _++_}
 use lib.Dec.{eqb, ltb}
 use lib.ListN.{length}
 use borrow.Author.Tests.{eq-eqb, ne-eqb, eqb-true, eqb-false, lt-ltb, ltb-false}
 use Rattle.regs.specs.declared.answers.AbortReason.{AbortReason}
-use Rattle.regs.specs.Registers.{DATA-CMD, RXFLR}
+use Rattle.regs.specs.Registers.{DATA-CMD}
 use Rattle.regs.specs.Fields.{cmd, command-word, level}
 use Rattle.regs.specs.Log.{Each}
 use Rattle.regs.specs.Program as P
-use Rattle.regs.specs.Program.{if_then_else_, _>>=_, _>>_, return, exit, get, when, skip, while, Turn, again, done, by-turn, rounds, loop, Poll, pending, ready, polled, wait-on, Result, ok, err}
-use Rattle.master.specs.Driver.{Driver, Tried, is-err, try, while-test, tx-fifo-capacity, tx-fifo-full, rx-fifo-len, read-and-clear-abort-reason}
+use Rattle.regs.specs.Program.{if_then_else_, _>>=_, _>>_, done, by-turn, rounds, pending, ready, polled, ok, err}
+use Rattle.master.specs.Driver.{Driver, Tried, try, rx-fifo-len}
 use Rattle.master.specs.Blocking.{read-blocking-bytes, read-blocking-internal, write-blocking-bytes, write-blocking-internal}
-use Rattle.master.specs.Async.{Counts, is-empty, queue-batch, batch-come, batch-poll, stop-poll, wait-stop-det, space-poll, fetch-bytes, take-batch, read-round, read-async-internal, Filled, break-xmit, full, fill, go-on, wait-space, xmit, write-async-internal}
+use Rattle.master.specs.Async.{is-empty, queue-batch, batch-come, batch-poll, stop-poll, wait-stop-det, space-poll, fetch-bytes, read-round, read-async-internal, Filled, break-xmit, full, fill, go-on, xmit, write-async-internal}
 use Rattle.master.specs.Operations.{Operation, writes, reads, Mode, blocking, async}
 use Rattle.master.specs.Transfer.{read-internal, write-internal, each-operation}
-use Rattle.master.proofs.Words.{read-words, write-words, words-of, all-words}
+use Rattle.master.proofs.Words.{read-words, write-words, all-words}
 use Rattle.master.proofs.Sequence.{Bytes, OfBytes}
 use Rattle.master.proofs.Emits.{Does, Emits}
-use Rattle.master.proofs.Quiet.{Quiet, emits-if, emits-when, quiet-while, quiet-loop, quiet-while-test, quiet-wait-on, quiet-capacity, quiet-full, quiet-len, quiet-abort, quiet-try, quiet-space-poll, quiet-stop-poll, quiet-wait-stop-det}
+use Rattle.master.proofs.Quiet.{Quiet, emits-if, emits-when, quiet-while, quiet-while-test, quiet-wait-on, quiet-capacity, quiet-full, quiet-len, quiet-abort, quiet-try, quiet-space-poll, quiet-stop-poll, quiet-wait-stop-det}
 
 -- one word
 

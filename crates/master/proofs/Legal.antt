@@ -3,7 +3,7 @@ use Prim.Native.Nat.{ℕ, zero, suc, _+_, _-_}
 use mathlib.Core.Bool.{Bool, true, false}
 use mathlib.Core.List.{List, [], _∷_}
 use Rattle.regs.specs.declared.answers.Answer.{Answer}
-use Rattle.regs.specs.Program.{Result, ok, err}
+use Rattle.regs.specs.Program.{ok, err}
 use Rattle.regs.specs.Log.{Legal, Each, expected}
 use Rattle.regs.proofs.Legal.{LegalP, legal, legal-expected}
 use Rattle.master.specs.Driver.{Driver, Tried, try, setup, tx-fifo-capacity, tx-fifo-full, rx-fifo-len, read-and-clear-abort-reason, while-turn}

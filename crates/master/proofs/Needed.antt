@@ -1,9 +1,9 @@
 -- Demand 3's premises can be met, and none can be left out: the claim without it is refuted by two computed runs.
-use Prim.Native.Nat.{ℕ, zero, suc, _+_, _≤_}
+use Prim.Native.Nat.{ℕ, _+_, _≤_}
 use native.Mathlib.Omega.{arith}
 use mathlib.Core.Path.{_≡_, refl}
 use mathlib.Core.Logic.{_≢_}
-use mathlib.Core.Bool.{_&&_}
+use mathlib.Core.Bool.{true, _&&_}
 use mathlib.Core.List.{List, [], _∷_, _++_}
 use lib.Dec.{eqb, ltb, ltb→lt, T}
 use Rattle.regs.specs.declared.access.Entry.{Entry}
@@ -18,7 +18,7 @@ use Rattle.bus.specs.Bus.{signs, written-to}
 use Rattle.master.specs.Driver.{setup, tx-fifo-capacity, tx-fifo-full, rx-fifo-len, read-and-clear-abort-reason}
 use Rattle.master.specs.Blocking.{read-blocking-bytes, read-blocking-internal, write-blocking-bytes, write-blocking-internal}
 use Rattle.master.specs.Async.{wait-stop-det, queue-batch, fetch-bytes, read-async-internal, fill, write-async-internal}
-use Rattle.master.specs.Operations.{Operation, writes, reads, Transfer, read, write, write-read, transaction, Mode, blocking, async}
+use Rattle.master.specs.Operations.{writes, reads, Transfer, read, write, write-read, transaction, Mode, blocking, async}
 use Rattle.master.specs.Transfer.{each-operation, blocking-read, blocking-write, blocking-write-read, blocking-transaction, read-async, write-async, write-read-async, transaction-async}
 use Rattle.master.specs.Sequence.{joined}
 use Rattle.master.specs.Demand3.{Byte, Run, left-by, operations, NotEmpty, taken-by, taken-in, issued-by, issued-in, LevelsPossible, Premises, SameIf}
@@ -29,7 +29,7 @@ abbrev byte : (v : ℕ) → T (ltb v 256) → Byte
 byte v small = record { value = v; small = ltb→lt v 256 small }
 
 abbrev run : Mode → ℕ → Transfer Byte → List ℕ → Run
-run mode address x readings = record { mode = mode; address = address; arguments = x; room = 100; readings = readings; buffer = 0 ∷ 0 ∷ 0 ∷ [] }
+run mode address x readings = record { mode = mode; address = address; arguments = x; limits = true; room = 100; readings = readings; buffer = 0 ∷ 0 ∷ 0 ∷ [] }
 
 -- the levels of a log, place by place and as the premise has them
 levels-at : (before after : List Entry) (v i t : ℕ) → AllPossible i t (before ++ (Read RXFLR v ∷ after)) → level v + (t + taken-in before) ≤ i + issued-in before
@@ -84,7 +84,8 @@ pub record Needed : Type 0 where
   pub levels : SameIf (λ left os. (left .answer ≡ Answered Accepted) × ((os ≢ []) × Each NotEmpty os)) → ⊥
 
 pub needed : Needed
-unfolding outcome turns rounds setup tx-fifo-capacity tx-fifo-full rx-fifo-len read-and-clear-abort-reason read-blocking-bytes read-blocking-internal write-blocking-bytes write-blocking-internal wait-stop-det queue-batch fetch-bytes read-async-internal fill write-async-internal each-operation blocking-read blocking-write blocking-write-read blocking-transaction read-async write-async write-read-async transaction-async signs written-to joined
+unfolding outcome turns rounds setup tx-fifo-capacity tx-fifo-full rx-fifo-len read-and-clear-abort-reason read-blocking-bytes read-blocking-internal write-blocking-bytes write-blocking-internal wait-stop-det queue-batch fetch-bytes
+    read-async-internal fill write-async-internal each-operation blocking-read blocking-write blocking-write-read blocking-transaction read-async write-async write-read-async transaction-async signs written-to joined
 needed = record {
   met-async = record { succeeds = refl; at-least-one = not-nil _ _; none-empty = (tt, tt); levels = levels-of (left-by three-rounds .log) (omega arith) };
   met-blocking = record { succeeds = refl; at-least-one = not-nil _ _; none-empty = (tt, (tt, tt)); levels = levels-of (left-by written-and-read .log) (omega arith) };

@@ -1,14 +1,13 @@
 -- Parts of the driver that leave TAR and DATA_CMD alone: what is due after such a part was due before it.
-use Prim.Native.Nat.{ℕ, zero, suc, _+_, _-_}
-use mathlib.Core.Path.{_≡_, refl}
-use mathlib.Core.Bool.{Bool, true, false, not, _&&_, _||_}
-use mathlib.Core.List.{List, [], _∷_}
-use lib.Dec.{eqb, ltb}
-use Rattle.regs.specs.Registers.{DATA-CMD, TXFLR, RXFLR, INTR-MASK, RAW-INTR-STAT, CLR-STOP-DET}
-use Rattle.regs.specs.Fields.{level, stop-det}
-use Rattle.regs.specs.Program.{if_then_else_, _>>=_, _>>_, return, exit, get, when, skip, turns, while, Turn, again, done, by-turn, rounds, loop, Poll, pending, ready, polled, wait-on, Result, ok, err}
-use Rattle.master.specs.Driver.{Driver, Tried, is-err, try, while-turn, while-test, tx-fifo-capacity, tx-fifo-full, rx-fifo-len, read-and-clear-abort-reason}
-use Rattle.master.specs.Async.{both, stop-poll, wait-stop-det, space-come, space-poll}
+use Prim.Native.Nat.{ℕ, zero, suc, _-_}
+use mathlib.Core.Path.{_≡_}
+use mathlib.Core.Bool.{Bool, true, false}
+use mathlib.Core.List.{List, []}
+use lib.Dec.{eqb}
+use Rattle.regs.specs.Registers.{DATA-CMD}
+use Rattle.regs.specs.Program.{if_then_else_, when, turns, while, Turn, again, done, by-turn, rounds, loop, Poll, pending, ready, polled, wait-on, ok, err}
+use Rattle.master.specs.Driver.{Driver, Tried, try, while-turn, while-test, tx-fifo-capacity, tx-fifo-full, rx-fifo-len, read-and-clear-abort-reason}
+use Rattle.master.specs.Async.{stop-poll, wait-stop-det, space-come, space-poll}
 use Rattle.master.proofs.Emits.{Does, Emits}
 
 abbrev pub Quiet : {B : Type 0} → Driver B → Type 0

@@ -1,14 +1,14 @@
 -- The words of operations make the sequence of the joined operations.
-use Prim.Native.Nat.{ℕ, zero, suc, _+_, _*_, _/_, _%_, _^_, _<_}
+use Prim.Native.Nat.{ℕ, zero, suc, _+_, _/_, _%_, _^_, _<_}
 use native.Mathlib.Omega.{arith}
 use mathlib.Core.Path.{_≡_, refl, ap, sym, _∙_}
 use mathlib.Core.Logic.{_≢_}
 use mathlib.Core.Bool.{Bool, true, false, not, _&&_, and-false, and-true}
 use mathlib.Core.List.{List, [], _∷_, _++_, map, append-assoc}
-use lib.Dec.{eqb, eqb·suc-zero}
+use lib.Dec.{eqb·suc-zero}
 use lib.ListN.{replicate, replicate-append-replicate}
 use Rattle.regs.specs.Program.{if_then_else_}
-use Rattle.regs.specs.Fields.{b2n, bit, cmd, stop, restart, dat, command-word}
+use Rattle.regs.specs.Fields.{stop, restart, command-word}
 use Rattle.regs.specs.Log.{Each}
 use Rattle.bus.specs.declared.Direction.{Direction}
 use Rattle.bus.specs.declared.Direction.the-variants.{Writing, Reading}
@@ -16,8 +16,7 @@ use Rattle.bus.specs.declared.Bus.{Bus}
 use Rattle.bus.specs.declared.Bus.the-variants.{Idle, Busy}
 use Rattle.bus.specs.declared.Opening.{Opening}
 use Rattle.bus.specs.declared.Opening.the-variants.{None, Start, Restart}
-use Rattle.bus.specs.Bus.{Sign, START, RESTART, STOP, address-byte, written, read-slot, same, direction-of, opening-of, opening, byte-sign, closing, after, signs-of, signs}
-use Rattle.master.specs.Async.{is-empty}
+use Rattle.bus.specs.Bus.{Sign, RESTART, STOP, written, read-slot, same, direction-of, opening-of, opening, byte-sign, closing, signs}
 use Rattle.master.specs.Operations.{Operation, writes, reads}
 use Rattle.master.specs.Sequence.{joined-to, joined, direction, payload, sequence-from, sequence}
 use Rattle.master.specs.Demand3.{NotEmpty}

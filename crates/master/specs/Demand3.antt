@@ -8,6 +8,7 @@ use mathlib.Core.List.{List, [], _∷_, _++_, map}
 use lib.Dec.{eqb}
 use Rattle.regs.specs.declared.access.Entry.{Entry}
 use Rattle.regs.specs.declared.access.Entry.the-variants.{Read, Write, Marked}
+use Rattle.regs.specs.declared.answers.Answer.{Answer}
 use Rattle.regs.specs.declared.answers.Answer.the-variants.{Accepted}
 use Rattle.regs.specs.declared.answers.Reply.{Reply}
 use Rattle.regs.specs.declared.answers.Reply.the-variants.{Answered, OutOfReadings, LogFull}
@@ -15,7 +16,8 @@ use Rattle.regs.specs.Registers.{DATA-CMD, RXFLR}
 use Rattle.regs.specs.Fields.{cmd, level}
 use Rattle.regs.specs.Program.{if_then_else_, Outcome, outcome, behaviour}
 use Rattle.regs.specs.Log.{Each}
-use Rattle.bus.specs.Bus.{Sign, bus-sequence}
+use Rattle.bus.specs.Bus.{bus-sequence}
+use Rattle.master.specs.Driver.{Driver}
 use Rattle.master.specs.Operations.{Operation, writes, reads, Transfer, read, write, write-read, transaction, Mode, operations-of}
 use Rattle.master.specs.Transfer.{transfer, within}
 use Rattle.master.specs.Sequence.{joined, sequence, told}
@@ -39,19 +41,23 @@ plain (write bytes) = write (values bytes)
 plain (write-read bytes len) = write-read (values bytes) len
 plain (transaction os) = transaction (map plain-operation os)
 
--- a master transfer with what it is run on: any of the eight forms, any operations, any readings, any room in the log
+-- A call of a master transfer with what it is run on: any of the eight forms, any operations, any readings, any room in the log.
+-- `limits` is what number 20's test says of the call's arguments (specs/Transfer.antt).
 pub record Run : Type 0 where
   pub mode : Mode
   pub address : ℕ
   pub arguments : Transfer Byte
+  pub limits : Bool
   pub room : ℕ
   pub readings : List ℕ
   pub buffer : List ℕ
 
+abbrev pub call : Run → Driver Answer
+call r = within (r .limits) (transfer (r .mode) (r .address) (plain (r .arguments)))
+
 -- what it leaves
 abbrev pub left-by : Run → Outcome (Unit {0}) Reply
-left-by r =
-    outcome Answered LogFull OutOfReadings (behaviour (transfer (r .mode) (r .address) (plain (r .arguments))) (r .room)) (r .room) (r .readings) (r .buffer) tt
+left-by r = outcome Answered LogFull OutOfReadings (behaviour (call r) (r .room)) (r .room) (r .readings) (r .buffer) tt
 
 abbrev pub operations : Run → List (Operation ℕ)
 operations r = operations-of (plain (r .arguments))
@@ -109,12 +115,3 @@ SequenceOfRun = (r : Run) → Premises (left-by r) (operations r) → bus-sequen
 abbrev pub ToldByRun : Type 0
 ToldByRun = (r : Run) → Premises (left-by r) (operations r)
     → (told (bus-sequence (left-by r .log)) .address ≡ r .address) × (told (bus-sequence (left-by r .log)) .operations ≡ joined (operations r))
-
--- The same of the calls, each of which is a transfer within limits (`within`, number 20), whatever the limits say: an accepted call is within them.
-abbrev pub left-by-call : Bool → Run → Outcome (Unit {0}) Reply
-left-by-call limits r =
-    outcome Answered LogFull OutOfReadings (behaviour (within limits (transfer (r .mode) (r .address) (plain (r .arguments)))) (r .room)) (r .room) (r .readings) (r .buffer) tt
-
-abbrev pub SameSequenceOfCalls : Type 0
-SameSequenceOfCalls = (l m : Bool) (r s : Run) → Premises (left-by-call l r) (operations r) → Premises (left-by-call m s) (operations s)
-    → (bus-sequence (left-by-call l r .log) ≡ bus-sequence (left-by-call m s .log)) ↔ ((r .address ≡ s .address) × (joined (operations r) ≡ joined (operations s)))
