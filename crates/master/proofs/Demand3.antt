@@ -28,7 +28,7 @@ use Rattle.master.specs.Sequence.{joined-to, joined, sequence, told}
 use Rattle.master.specs.Demand3.{Byte, values, plain-operation, plain, operations, taken-by, taken-in, issued-by, issued-in, SameSequence, SequenceOfRun, ToldByRun}
 use Rattle.master.proofs.Words.{all-words}
 use Rattle.master.proofs.Sequence.{Bytes, OfBytes, AllHarmless, harmless-unset, words-make-sequence}
-use Rattle.master.proofs.Apart.{all-told}
+use Rattle.master.proofs.Told.{all-told}
 use Rattle.master.proofs.Emits.{Does, after, AllPossible, Emits, emits-sound}
 use Rattle.master.proofs.Issue.{read-issues, write-issues, operations-issue}
 

@@ -6,4 +6,3 @@ pub mod Operations
 pub mod Transfer
 pub mod Sequence
 pub mod Demand3
-pub mod Examples

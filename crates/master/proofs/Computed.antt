@@ -4,13 +4,14 @@ use mathlib.Core.Bool.{true, false}
 use mathlib.Core.Path.{_≡_, refl}
 use mathlib.Core.List.{List, [], _∷_}
 use lib.ListN.{replicate}
-use Rattle.regs.specs.declared.access.Entry.the-variants.{Read, Write}
+use Rattle.regs.specs.declared.access.Entry.the-variants.{Read, Write, Marked}
 use Rattle.regs.specs.declared.answers.AbortReason.the-variants.{ArbitrationLoss, Other}
 use Rattle.regs.specs.declared.answers.Refusal.the-variants.{AddressOutOfRange, InvalidReadBufferLength, InvalidWriteBufferLength, Abort, TxLevelOutOfRange, OverLimits}
 use Rattle.regs.specs.declared.answers.Answer.the-variants.{Accepted, Refused}
 use Rattle.regs.specs.declared.answers.Reply.{Reply}
 use Rattle.regs.specs.declared.answers.Reply.the-variants.{Answered, OutOfReadings, LogFull}
 use Rattle.regs.specs.Registers.{DATA-CMD}
+use Rattle.regs.specs.Fields.{set-field}
 use Rattle.regs.specs.Program.{Outcome, outcome, turns, rounds, behaviour}
 use Rattle.bus.specs.Bus.{Sign, START, RESTART, STOP, address-byte, written, read-slot, signs, written-to, bus-sequence}
 use Rattle.master.specs.Driver.{setup, tx-fifo-capacity, tx-fifo-full, rx-fifo-len, read-and-clear-abort-reason}
@@ -84,6 +85,11 @@ pub record Corners : Type 0 where
   pub three-rounds : Makes (left async 0x50 (read 3) (16 ∷ 0 ∷ 0 ∷ 14 ∷ 1 ∷ 0 ∷ 0 ∷ 2 ∷ 0 ∷ 0xAA ∷ 0xBB ∷ 0 ∷ 1 ∷ 0 ∷ 0xCC ∷ 0 ∷ 0x200 ∷ 0 ∷ []))
       (START ∷ address-byte 0xA1 ∷ read-slot ∷ read-slot ∷ read-slot ∷ STOP ∷ [])
   pub three-bytes : left async 0x50 (read 3) (16 ∷ 0 ∷ 0 ∷ 14 ∷ 1 ∷ 0 ∷ 0 ∷ 2 ∷ 0 ∷ 0xAA ∷ 0xBB ∷ 0 ∷ 1 ∷ 0 ∷ 0xCC ∷ 0 ∷ 0x200 ∷ 0 ∷ []) .buffer ≡ 0xAA ∷ 0xBB ∷ 0xCC ∷ []
+  -- words still to queue and bytes still to take are two counts: one word, then two bytes taken, and two words still to come
+  pub two-counts : Words (left async 0x50 (read 3) (15 ∷ 2 ∷ 0 ∷ 0xAA ∷ 0xBB ∷ 0 ∷ 2 ∷ 0 ∷ 0xCC ∷ 0 ∷ 0x200 ∷ 0 ∷ [])) (0x500 ∷ 0x100 ∷ 0x300 ∷ [])
+  -- a poll that is not ready ends in a pending mark, after the threshold and the masks of RX_FULL and TX_ABRT are set
+  pub pending-poll : left async 0x50 (read 2) (0 ∷ 1 ∷ 0 ∷ 0x200 ∷ []) .log
+      ≡ Write 0x6C 0 ∷ Write 0x04 0x50 ∷ Write 0x6C 1 ∷ Read 0x74 0 ∷ Write 0x10 0x500 ∷ Write 0x10 0x300 ∷ Read 0x78 1 ∷ Read 0x80 0 ∷ Write 0x38 1 ∷ Read 0x30 0x200 ∷ Write 0x30 0x244 ∷ Marked 0 ∷ []
   -- an async write that fills the FIFO exactly goes round once more, and then leaves both loops
   pub exact-fill : Makes (left async 0x50 (write (0x11 ∷ 0x22 ∷ [])) (14 ∷ 0 ∷ 16 ∷ 0 ∷ 0 ∷ 15 ∷ 15 ∷ 0 ∷ 0x200 ∷ 0 ∷ []))
       (START ∷ address-byte 0xA0 ∷ written 0x11 ∷ written 0x22 ∷ STOP ∷ [])
@@ -116,12 +122,14 @@ pub record Corners : Type 0 where
 
 pub corners : Corners
 unfolding outcome turns rounds setup tx-fifo-capacity tx-fifo-full rx-fifo-len read-and-clear-abort-reason read-blocking-bytes read-blocking-internal write-blocking-bytes write-blocking-internal wait-stop-det queue-batch
-    fetch-bytes read-async-internal fill write-async-internal each-operation blocking-read blocking-write blocking-write-read blocking-transaction read-async write-async write-read-async transaction-async signs written-to
+    fetch-bytes read-async-internal fill write-async-internal each-operation blocking-read blocking-write blocking-write-read blocking-transaction read-async write-async write-read-async transaction-async signs written-to set-field
 corners = record {
   two-bytes = (refl, refl);
   two-bytes-async = (refl, refl);
   three-rounds = (refl, refl);
   three-bytes = refl;
+  two-counts = (refl, refl);
+  pending-poll = refl;
   exact-fill = (refl, refl);
   write-read-pair = (refl, refl);
   transaction-pair = (refl, refl);
