@@ -7,7 +7,7 @@ use Rattle.regs.specs.declared.answers.Refusal.the-variants.{InvalidReadBufferL
 use Rattle.regs.specs.declared.answers.Answer.the-variants.{Refused}
 use Rattle.regs.specs.Registers.{DATA-CMD, INTR-MASK, RAW-INTR-STAT, RX-TL, TX-TL, CLR-STOP-DET}
 use Rattle.regs.specs.Fields.{command-word, dat, stop-det, set-m-rx-full, set-m-tx-empty, set-m-tx-abrt, set-m-stop-det}
-use Rattle.regs.specs.Program.{if_then_else_, _>>=_, _>>_, return, exit, get, put, modify, store, skip, when, Result, ok, err, Turn, again, done, loop, Poll, pending, ready, wait-on}
+use Rattle.regs.specs.Program.{if_then_else_, _>>=_, _>>_, return, exit, get, put, modify, store, skip, when, ok, err, Turn, again, done, loop, Poll, pending, ready, wait-on}
 use Rattle.master.specs.Driver.{Driver, Tried, is-err, try, tx-fifo-capacity, tx-fifo-full, rx-fifo-len, read-and-clear-abort-reason}
 
 -- ---- fn wait_stop_det

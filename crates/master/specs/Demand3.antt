@@ -8,6 +8,7 @@ use mathlib.Core.List.{List, [], _∷_, _++_, map}
 use lib.Dec.{eqb}
 use Rattle.regs.specs.declared.access.Entry.{Entry}
 use Rattle.regs.specs.declared.access.Entry.the-variants.{Read, Write, Marked}
+use Rattle.regs.specs.declared.answers.Answer.{Answer}
 use Rattle.regs.specs.declared.answers.Answer.the-variants.{Accepted}
 use Rattle.regs.specs.declared.answers.Reply.{Reply}
 use Rattle.regs.specs.declared.answers.Reply.the-variants.{Answered, OutOfReadings, LogFull}
@@ -15,9 +16,10 @@ use Rattle.regs.specs.Registers.{DATA-CMD, RXFLR}
 use Rattle.regs.specs.Fields.{cmd, level}
 use Rattle.regs.specs.Program.{if_then_else_, Outcome, outcome, behaviour}
 use Rattle.regs.specs.Log.{Each}
-use Rattle.bus.specs.Bus.{Sign, bus-sequence}
+use Rattle.bus.specs.Bus.{bus-sequence}
+use Rattle.master.specs.Driver.{Driver}
 use Rattle.master.specs.Operations.{Operation, writes, reads, Transfer, read, write, write-read, transaction, Mode, operations-of}
-use Rattle.master.specs.Transfer.{transfer}
+use Rattle.master.specs.Transfer.{transfer, within}
 use Rattle.master.specs.Sequence.{joined, sequence, told}
 
 -- a byte: what a call's `&[u8]` holds
@@ -39,19 +41,23 @@ plain (write bytes) = write (values bytes)
 plain (write-read bytes len) = write-read (values bytes) len
 plain (transaction os) = transaction (map plain-operation os)
 
--- a master transfer with what it is run on: any of the eight forms, any operations, any readings, any room in the log
+-- A call of a master transfer with what it is run on: any of the eight forms, any operations, any readings, any room in the log.
+-- `limits` is what number 20's test says of the call's arguments (specs/Transfer.antt).
 pub record Run : Type 0 where
   pub mode : Mode
   pub address : ℕ
   pub arguments : Transfer Byte
+  pub limits : Bool
   pub room : ℕ
   pub readings : List ℕ
   pub buffer : List ℕ
 
+abbrev pub call : Run → Driver Answer
+call r = within (r .limits) (transfer (r .mode) (r .address) (plain (r .arguments)))
+
 -- what it leaves
 abbrev pub left-by : Run → Outcome (Unit {0}) Reply
-left-by r =
-    outcome Answered LogFull OutOfReadings (behaviour (transfer (r .mode) (r .address) (plain (r .arguments))) (r .room)) (r .room) (r .readings) (r .buffer) tt
+left-by r = outcome Answered LogFull OutOfReadings (behaviour (call r) (r .room)) (r .room) (r .readings) (r .buffer) tt
 
 abbrev pub operations : Run → List (Operation ℕ)
 operations r = operations-of (plain (r .arguments))
@@ -85,22 +91,27 @@ issued-in (Marked x ∷ log) = issued-in log
 abbrev pub LevelsPossible : List Entry → Type 0
 LevelsPossible log = (before after : List Entry) (v : ℕ) → log ≡ before ++ (Read RXFLR v ∷ after) → level v + taken-in before ≤ issued-in before
 
-pub record Premises (r : Run) : Type 0 where
-  pub succeeds : left-by r .answer ≡ Answered Accepted
-  pub at-least-one : operations r ≢ []
-  pub none-empty : Each NotEmpty (operations r)
-  pub levels : LevelsPossible (left-by r .log)
+-- the premises, of what a transfer left and of its operations
+pub record Premises (left : Outcome (Unit {0}) Reply) (os : List (Operation ℕ)) : Type 0 where
+  pub succeeds : left .answer ≡ Answered Accepted
+  pub at-least-one : os ≢ []
+  pub none-empty : Each NotEmpty os
+  pub levels : LevelsPossible (left .log)
+
+-- under such premises two runs make the same sequence exactly if their addresses and their joined operations are the same
+abbrev pub SameIf : (Outcome (Unit {0}) Reply → List (Operation ℕ) → Type 0) → Type 0
+SameIf P = (r s : Run) → P (left-by r) (operations r) → P (left-by s) (operations s)
+    → (bus-sequence (left-by r .log) ≡ bus-sequence (left-by s .log)) ↔ ((r .address ≡ s .address) × (joined (operations r) ≡ joined (operations s)))
 
 -- the demand
 abbrev pub SameSequence : Type 0
-SameSequence = (r s : Run) → Premises r → Premises s
-    → (bus-sequence (left-by r .log) ≡ bus-sequence (left-by s .log)) ↔ ((r .address ≡ s .address) × (joined (operations r) ≡ joined (operations s)))
+SameSequence = SameIf Premises
 
 -- each sequence is the one that its own address and joined operations make alone
 abbrev pub SequenceOfRun : Type 0
-SequenceOfRun = (r : Run) → Premises r → bus-sequence (left-by r .log) ≡ sequence (r .address) (joined (operations r))
+SequenceOfRun = (r : Run) → Premises (left-by r) (operations r) → bus-sequence (left-by r .log) ≡ sequence (r .address) (joined (operations r))
 
 -- and it tells both
 abbrev pub ToldByRun : Type 0
-ToldByRun = (r : Run) → Premises r
+ToldByRun = (r : Run) → Premises (left-by r) (operations r)
     → (told (bus-sequence (left-by r .log)) .address ≡ r .address) × (told (bus-sequence (left-by r .log)) .operations ≡ joined (operations r))
