@@ -1,0 +1,37 @@
+-- The bytes of a write that are still to send, in the one lent write buffer.
+use Prim.Native.Nat.{ℕ, suc, _+_, _<_, _≤_}
+use native.Mathlib.Omega.{arith}
+use mathlib.Core.List.{List, [], _∷_}
+use mathlib.Core.Path.{_≡_, sym, ap, _∙_}
+use lib.Dec.{eqb}
+use lib.ListN.{length, getD, take, drop}
+use lib.Seq.{drop-cons}
+use borrow.Author.Tests.{eq-eqb, ne-eqb}
+use Rattle.master.specs.Async.{is-empty}
+use Rattle.transfer.specs.declared.points.Transfer.{Transfer}
+
+module _ (bytes : List ℕ) where
+  -- `rest` is what is left from byte i of the operation on
+  pub record Held (t : Transfer) (rest : List ℕ) (i : ℕ) : Type 0 where
+    pub same : rest ≡ take (length rest) (drop (t .at + i) bytes)
+    pub sum : i + length rest ≡ t .len
+    pub room : t .at + t .len ≤ length bytes
+
+  -- the next byte, and what is left after it
+  pub held-head : (t : Transfer) (byte : ℕ) (rest : List ℕ) (i : ℕ) → Held t (byte ∷ rest) i → (getD bytes (t .at + i) 0 ≡ byte) × (Held t rest (i + 1) × (i < t .len))
+  held-head t byte rest i h =
+      let s : i + suc (length rest) ≡ t .len = h .sum in
+      let g : t .at + t .len ≤ length bytes = h .room in
+      let e : t .at + (i + 1) ≡ suc (t .at + i) = omega arith in
+      let w : byte ∷ rest ≡ getD bytes (t .at + i) 0 ∷ take (length rest) (drop (suc (t .at + i)) bytes)
+      = h .same ∙ ap (λ (l : List ℕ). take (suc (length rest)) l) (drop-cons bytes (t .at + i) 0 (omega arith)) in
+      let tail : rest ≡ take (length rest) (drop (suc (t .at + i)) bytes) = cc in
+      ((cc), (record { same = rw e tail; sum = omega arith; room = g }, omega arith))
+
+  -- no byte is left at the end, and only there
+  pub held-end : (t : Transfer) (i : ℕ) → Held t [] i → i ≡ t .len
+  held-end t i h = let s : i + 0 ≡ t .len = h .sum in omega arith
+
+  pub held-last : (t : Transfer) (byte : ℕ) (rest : List ℕ) (i : ℕ) → Held t (byte ∷ rest) i → is-empty rest ≡ eqb (i + 1) (t .len)
+  held-last t byte [] i h = let s : i + 1 ≡ t .len = h .sum in sym (eq-eqb (i + 1) (t .len) s)
+  held-last t byte (x ∷ rest) i h = let s : i + suc (suc (length rest)) ≡ t .len = h .sum in sym (ne-eqb (i + 1) (t .len) (λ e. omega arith))
