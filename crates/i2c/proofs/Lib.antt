@@ -9,3 +9,4 @@ pub mod WritesAsync
 pub mod Operations
 pub mod Listed
 pub mod Calls
+pub mod Driving
