@@ -113,10 +113,10 @@ module _ (kinds lengths bytes : List ℕ) where
         loop-agree M n _ _ (λ x y. with-point t (Abort A.Source (C.Stop (Failed r)))) (λ (x : Unit {0}) (y : Unit {0}). Unit {0}) n m l
         (λ m₁ l₁ x y b i rest back.
         let status : (m₂ : ℕ) → m₂ < m₁ → Agrees m₂ (with-point t (Stop (S.Stat (Failed r)))) b
-            (reads RAW-INTR-STAT (λ s. (if_then_else_ {A = Driver (Poll (Unit {0}) (Tried (Unit {0})))} (stop-det s) (return (ready (ok tt))) (return (pending tt))) n (λ w. polled (modify INTR-MASK (λ w. set-m-tx-abrt (set-m-stop-det w))) w n (λ w. by-turn w rest (λ second. reads CLR-STOP-DET (λ v. k (both (err r) second)))))))
-            = λ m₂ l₂. reads-agree M m₂ refl (λ m₃ l₃ v. by-test (stop-det v)
-            (λ q. rw q (cleared (Failed r) m₃ (omega arith) b))
-            (λ q. rw q (pend-agrees t (O.Stop (Failed r)) m₃ b _ (λ m₄ l₄. back m₄ (omega arith) tt tt b tt)))) in
+        (reads RAW-INTR-STAT (λ s. (if_then_else_ {A = Driver (Poll (Unit {0}) (Tried (Unit {0})))} (stop-det s) (return (ready (ok tt))) (return (pending tt))) n (λ w. polled (modify INTR-MASK (λ w. set-m-tx-abrt (set-m-stop-det w))) w n (λ w. by-turn w rest (λ second. reads CLR-STOP-DET (λ v. k (both (err r) second)))))))
+        = λ m₂ l₂. reads-agree M m₂ refl (λ m₃ l₃ v. by-test (stop-det v)
+        (λ q. rw q (cleared (Failed r) m₃ (omega arith) b))
+        (λ q. rw q (pend-agrees t (O.Stop (Failed r)) m₃ b _ (λ m₄ l₄. back m₄ (omega arith) tt tt b tt)))) in
         reason-agrees t (C.Stop (Failed r)) m₁ n b _ (λ m₂ l₂ p. status m₂ l₂) (λ m₂ l₂ p s. status m₂ l₂)) tt tt b tt
 
     wanted : (stop : Bool) (m : ℕ) → m ≤ top → m ≤ n → (p : Point) (b : List ℕ) → Agrees m (moved-to kinds lengths (with-point t p) (wait-stop stop Fine)) b (wait-stop-det (ok tt) stop n k)

@@ -58,15 +58,17 @@ module _ (kinds lengths bytes readings : List ℕ) where
           let eu : u′ ≡ w = cc in
           let more : 0 < length l / 2 - e = has-room readings (length l / 2 - e) (length l / 2) e u (machine kinds lengths bytes) t v w sum q in
           let less : length l / 2 - e - 1 ≡ length l₀ / 2 - (e + 1) = omega (arith, half) in
-          let base : ran (machine kinds lengths bytes) readings (length l / 2 - e) t e u l b ≡ ran (machine kinds lengths bytes) readings (length l₀ / 2 - e₀) t₀ e₀ u₀ l₀ b₀ = rw half (g .same) in
-          (record {
-            same = rw (et, eu, el, eb, ← less) (sym (at-access (machine kinds lengths bytes) readings (length l / 2 - e) (length l / 2) t e u l b v w sum q) ∙ base);
-            up = omega (arith, g .up);
-            room = omega (arith, more, half);
-            long = rw el (simp length-set (g .long));
-            wide = rw eb (length-stored b (store-of t v) ∙ g .wide);
-            fits = g .fits;
-          }, omega (arith, more, half))
+          let base : ran (machine kinds lengths bytes) readings (length l / 2 - e) t e u l b ≡ ran (machine kinds lengths bytes) readings (length l₀ / 2 - e₀) t₀ e₀ u₀ l₀ b₀ = rw half (g .same) in (
+            record {
+              same = rw (et, eu, el, eb, ← less) (sym (at-access (machine kinds lengths bytes) readings (length l / 2 - e) (length l / 2) t e u l b v w sum q) ∙ base);
+              up = omega (arith, g .up);
+              room = omega (arith, more, half);
+              long = rw el (simp length-set (g .long));
+              wide = rw eb (length-stored b (store-of t v) ∙ g .wide);
+              fits = g .fits;
+            },
+            omega (arith, more, half),
+          )
       on (P.Stopped y) q x el eb = let z : _≡_ {A = ℕ} 0 1 = cc in absurd (omega arith)
 
       pub goes-on : {t′ : Transfer} {u′ : ℕ} → r ≡ On t′ u′ → (Goes t₀ e₀ u₀ l₀ b₀ t′ (e + 1) u′ l′ b′) × (e < length l₀ / 2)

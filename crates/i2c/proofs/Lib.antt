@@ -8,5 +8,7 @@ pub mod ReadsAsync
 pub mod WritesAsync
 pub mod Operations
 pub mod Listed
-pub mod Calls
+pub mod Transfers
+pub mod Called
 pub mod Driving
+pub mod Sums

@@ -16,13 +16,13 @@ use Rattle.regs.proofs.Refine.{Agree, ends-agree}
 use Rattle.master.specs.Async.{is-empty}
 use Rattle.master.specs.Operations.{listed, total, known, READ, WRITE}
 use Rattle.master.specs.Transfer.{each-operation}
-use Rattle.transfer.specs.Points.{with-point}
+use Rattle.transfer.specs.Points.{with-point, mode-of}
 use Rattle.transfer.specs.Machine.{machine, next-at, opened, opened-write, opened-read, begun, sum-of}
 use Rattle.transfer.specs.declared.points.Transfer.{Transfer}
 use Rattle.transfer.specs.declared.points.Point.{Point}
 use Rattle.i2c.proofs.Basics.{by-test, sum-is, M, Agrees}
 use Rattle.i2c.proofs.Bytes.{Held}
-use Rattle.i2c.proofs.Operations.{mode-of, read-agrees, write-agrees}
+use Rattle.i2c.proofs.Operations.{read-agrees, write-agrees}
 
 -- the front of what is left of a list
 front : (xs : List ℕ) (j x : ℕ) (rest : List ℕ) → drop j xs ≡ x ∷ rest → (j < length xs) × ((getD xs j 0 ≡ x) × (drop (j + 1) xs ≡ rest))
@@ -80,34 +80,38 @@ module _ (kinds lengths bytes : List ℕ) where
   write-left t kind len ks ls last p left q =
       let w : t .writes + (len + total WRITE ks ls) ≤ length bytes = rw q at (left .writes-fit) in
       let r : t .reads + total READ ks ls ≤ 4096 = rw (not-read kind q) at (left .reads-fit) in
-      let f : length bytes ≤ 4096 = left .bytes-fit in
-      (record {
-        kinds-left = front kinds (t .begun) kind ks (left .kinds-left) .1 .1;
-        lengths-left = front lengths (t .begun) len ls (left .lengths-left) .1 .1;
-        as-many = omega (arith, left .as-many);
-        all-known = both-known (eqb kind READ || eqb kind WRITE) (known ks) (left .all-known);
-        reads-fit = r;
-        writes-fit = rw (sum-is (t .writes) len (omega arith)) (omega arith);
-        bytes-fit = f;
-        no-restart = left .no-restart;
-      }, omega arith)
+      let f : length bytes ≤ 4096 = left .bytes-fit in (
+        record {
+          kinds-left = front kinds (t .begun) kind ks (left .kinds-left) .1 .1;
+          lengths-left = front lengths (t .begun) len ls (left .lengths-left) .1 .1;
+          as-many = omega (arith, left .as-many);
+          all-known = both-known (eqb kind READ || eqb kind WRITE) (known ks) (left .all-known);
+          reads-fit = r;
+          writes-fit = rw (sum-is (t .writes) len (omega arith)) (omega arith);
+          bytes-fit = f;
+          no-restart = left .no-restart;
+        },
+        omega arith,
+      )
 
   read-left : (t : Transfer) (kind len : ℕ) (ks ls : List ℕ) (last : Bool) (p : Point) → Left kinds lengths bytes t (kind ∷ ks) (len ∷ ls) → eqb kind WRITE ≡ false
       → Left kinds lengths bytes (with-point (opened-read t (t .begun + 1) len last) p) ks ls × (t .reads + len ≤ 4096)
   unfolding opened-read total known
   read-left t kind len ks ls last p left q =
       let w : t .writes + total WRITE ks ls ≤ length bytes = rw q at (left .writes-fit) in
-      let r : t .reads + (len + total READ ks ls) ≤ 4096 = rw (is-read kind (first-known (eqb kind READ || eqb kind WRITE) (known ks) (left .all-known)) q) at (left .reads-fit) in
-      (record {
-        kinds-left = front kinds (t .begun) kind ks (left .kinds-left) .1 .1;
-        lengths-left = front lengths (t .begun) len ls (left .lengths-left) .1 .1;
-        as-many = omega (arith, left .as-many);
-        all-known = both-known (eqb kind READ || eqb kind WRITE) (known ks) (left .all-known);
-        reads-fit = rw (sum-is (t .reads) len (omega arith)) (omega arith);
-        writes-fit = w;
-        bytes-fit = left .bytes-fit;
-        no-restart = left .no-restart;
-      }, omega arith)
+      let r : t .reads + (len + total READ ks ls) ≤ 4096 = rw (is-read kind (first-known (eqb kind READ || eqb kind WRITE) (known ks) (left .all-known)) q) at (left .reads-fit) in (
+        record {
+          kinds-left = front kinds (t .begun) kind ks (left .kinds-left) .1 .1;
+          lengths-left = front lengths (t .begun) len ls (left .lengths-left) .1 .1;
+          as-many = omega (arith, left .as-many);
+          all-known = both-known (eqb kind READ || eqb kind WRITE) (known ks) (left .all-known);
+          reads-fit = rw (sum-is (t .reads) len (omega arith)) (omega arith);
+          writes-fit = w;
+          bytes-fit = left .bytes-fit;
+          no-restart = left .no-restart;
+        },
+        omega arith,
+      )
 
   -- the bytes of a write lie at the front of those that are left
   pub held-front : (t : Transfer) (len : ℕ) (last : Bool) → t .writes + len ≤ length bytes → Held bytes (opened-write t (t .begun + 1) len last) (take len (drop (t .writes) bytes)) 0

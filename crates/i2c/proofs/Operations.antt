@@ -14,10 +14,9 @@ use Rattle.regs.specs.declared.answers.Answer.the-variants.{Accepted, Refused}
 use Rattle.regs.proofs.Refine.{Agree, ends-agree}
 use Rattle.master.specs.Blocking.{read-blocking-internal, write-blocking-internal}
 use Rattle.master.specs.Async.{is-empty, read-async-internal, write-async-internal}
-use Rattle.master.specs.Operations.{Operation, writes, reads, blocking, async, listed, total, known, READ, WRITE}
-use Rattle.master.specs.Operations as Spec
+use Rattle.master.specs.Operations.{Operation, writes, reads}
 use Rattle.master.specs.Transfer.{read-internal, write-internal, each-operation}
-use Rattle.transfer.specs.Points.{with-point}
+use Rattle.transfer.specs.Points.{with-point, mode-of}
 use Rattle.transfer.specs.Machine.{machine, next-at, write-point, read-point, some-read, opened, opened-write, opened-read, begun, sum-of}
 use Rattle.transfer.specs.declared.points.Transfer.{Transfer}
 use Rattle.transfer.specs.declared.points.Mode.{Mode}
@@ -30,11 +29,6 @@ use Rattle.i2c.proofs.ReadsBlocking.{read-blocking-agrees}
 use Rattle.i2c.proofs.WritesBlocking.{write-blocking-agrees}
 use Rattle.i2c.proofs.ReadsAsync.{read-async-agrees}
 use Rattle.i2c.proofs.WritesAsync.{write-async-agrees}
-
--- the machine's mode, as the definitions have it
-abbrev pub mode-of : Mode → Spec.Mode
-mode-of Blocking = blocking
-mode-of Async = async
 
 module _ (kinds lengths bytes : List ℕ) where
   module _ (t : Transfer) (k : Unit {0} → Behaviour (Unit {0}) Answer) (top n m : ℕ) (h : m ≤ top) (l : m ≤ n) (good : Good kinds lengths bytes t k top) (b : List ℕ) where

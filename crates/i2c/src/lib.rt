@@ -1,21 +1,17 @@
-// The master's calls, in the Rust's names: a transfer driven to its end over recorded readings.
+// The master's calls: a transfer driven to its end over recorded readings.
+mod limits; // number 20
+pub mod calls; // the eight transfers, in the Rust's names
+
 use regs::access::Performed;
 use regs::access::Ran;
-use regs::answers::Answer;
-use regs::answers::Refusal;
 use regs::answers::Reply;
 use transfer::points::FillPoint;
-use transfer::points::Mode;
 use transfer::points::Point;
 use transfer::points::Transfer;
 ghost use mathlib.Core.Path.{_≡_};
-ghost use mathlib.Core.List.{List, [], _∷_};
-ghost use Prim.Native.Nat.{_/_, _≤_};
+ghost use Prim.Native.Nat.{_/_};
 ghost use lib.ListN.{length};
 ghost use Rattle.regs.specs.Machine.{final, ran};
-ghost use Rattle.regs.specs.Log.{Leaves, LeavesBuffer, expected};
-ghost use Rattle.master.specs.Operations as Spec;
-ghost use Rattle.master.specs.Transfer.{read-call, write-call, write-read-call, transaction-call};
 ghost use Rattle.transfer.specs.Machine.{machine};
 ghost use Rattle.i2c.specs.Steps.{Steps};
 
@@ -91,7 +87,7 @@ fn has_ended(t: Transfer) -> bool {
 }
 
 // The steps from a transfer to its end. A queued write goes by rounds, and in each by the free places of the FIFO; both loops are left when its bytes end.
-fn drive(
+pub fn drive(
     from: Transfer,
     kinds: &[u8],
     lengths: &[u16],
@@ -107,7 +103,17 @@ fn drive(
     let mut used: usize = 0;
     loop {
         'xmit: loop {
-            match step(t, kinds, lengths, bytes, readings, used, log, entries, buffer) {
+            match step(
+                t,
+                kinds,
+                lengths,
+                bytes,
+                readings,
+                used,
+                log,
+                entries,
+                buffer,
+            ) {
                 Stepped::Stopped(r) => {
                     return Ran {
                         reply: r,
@@ -122,7 +128,17 @@ fn drive(
                 }
             }
             while is_filling(t) {
-                match step(t, kinds, lengths, bytes, readings, used, log, entries, buffer) {
+                match step(
+                    t,
+                    kinds,
+                    lengths,
+                    bytes,
+                    readings,
+                    used,
+                    log,
+                    entries,
+                    buffer,
+                ) {
                     Stepped::Stopped(r) => {
                         return Ran {
                             reply: r,

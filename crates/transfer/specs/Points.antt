@@ -1,6 +1,10 @@
 -- A transfer's parts.
 use Prim.Native.Nat.{ℕ}
 use mathlib.Core.Bool.{Bool, true, false}
+use Rattle.master.specs.Operations.{blocking, async}
+use Rattle.master.specs.Operations as Spec
+use Rattle.transfer.specs.declared.points.Mode.{Mode}
+use Rattle.transfer.specs.declared.points.Mode.the-variants.{Blocking, Async}
 use Rattle.transfer.specs.declared.points.Point.{Point}
 use Rattle.transfer.specs.declared.points.Tried.{Tried}
 use Rattle.transfer.specs.declared.points.Tried.the-variants.{Fine, Failed}
@@ -12,3 +16,8 @@ with-point t p = record { point = p; mode = t .mode; restart = t .restart; «sen
 abbrev pub has-failed : Tried → Bool
 has-failed Fine = false
 has-failed (Failed r) = true
+
+-- the machine's mode, as the definitions have it
+abbrev pub mode-of : Mode → Spec.Mode
+mode-of Blocking = blocking
+mode-of Async = async

@@ -1,3 +1,4 @@
+-- `i2c::drive` meets its contract.
 use Rattle.i2c.proofs.Driving.{Goes, stays, then, goes-on, whole, as-long}
 use denote.Ref.{now}
 use lib.ListN.{length}
@@ -6,11 +7,6 @@ use native.Mathlib.Omega.{arith}
 use borrow.Author.Needs.{needs}
 use Rattle.i2c.proofs.drive.Statement.{statement}
 use Rattle.i2c.proofs.drive.Tie as tie
-use Rattle.i2c.proofs.drive.Reads as reads
-use Rattle.i2c.proofs.drive.Lts as lts
-use Rattle.i2c.proofs.has_ended.Reads as has-ended-reads
-use Rattle.i2c.proofs.is_filling.Reads as is-filling-reads
-use Rattle.i2c.proofs.step.Reads as step-reads
 
 abbrev Inv-loop2 : tie.InvT-loop2
 Inv-loop2 kinds lengths bytes readings log₀ buffer₀ t₀ entries₀ used₀ log buffer t entries used = Goes kinds lengths bytes readings t₀ entries₀ used₀ log₀ buffer₀ t entries used log buffer
@@ -30,104 +26,79 @@ Inv-loop kinds lengths bytes readings log₀ buffer₀ t₀ entries₀ used₀ l
 abbrev μ-loop : tie.MeasureT-loop
 μ-loop kinds lengths bytes readings log₀ buffer₀ t₀ entries₀ used₀ log buffer t entries used = length log₀ / 2 - entries
 
--- src/lib.rt:108:5
 loop-holds : tie.Need-loop-holds Inv-loop2 μ-loop2 Inv-xmit μ-xmit Inv-loop μ-loop
 loop-holds c = stays (now (c .before .before .before .before .before .before .args .kinds)) (now (c .before .before .before .before .before .before .args .lengths)) (now (c .before .before .before .before .before .before .args .bytes)) (now (c .before .before .before .before .before .before .args .readings)) (omega arith) (search needs)
 
--- src/lib.rt:109:9
 xmit-holds : tie.Need-xmit-holds Inv-loop2 μ-loop2 Inv-xmit μ-xmit Inv-loop μ-loop
 xmit-holds c = stays (now (c .before .before .before .before .before .before .before .args .kinds)) (now (c .before .before .before .before .before .before .before .args .lengths)) (now (c .before .before .before .before .before .before .before .args .bytes)) (now (c .before .before .before .before .before .before .before .args .readings)) (omega (arith, (c .loop .inv), (c .loop .inv) .room, (c .loop .inv) .long)) (omega (arith, (c .loop .inv) .fits, (c .loop .inv) .long))
 
--- src/lib.rt:110:19
 step-requires : tie.Need-step-requires Inv-loop2 μ-loop2 Inv-xmit μ-xmit Inv-loop μ-loop
 step-requires c κs = search needs
 
--- src/lib.rt:111:34
 enum-known-r : tie.Need-enum-known-r Inv-loop2 μ-loop2 Inv-xmit μ-xmit Inv-loop μ-loop
 enum-known-r c = search needs
 
--- src/lib.rt:112:21
 same-length : tie.Need-same-length Inv-loop2 μ-loop2 Inv-xmit μ-xmit Inv-loop μ-loop
 same-length c = search needs
 
--- src/lib.rt:112:21
 same-length-2 : tie.Need-same-length-2 Inv-loop2 μ-loop2 Inv-xmit μ-xmit Inv-loop μ-loop
 same-length-2 c = search needs
 
--- src/lib.rt:112:21
 returns : tie.Need-returns Inv-loop2 μ-loop2 Inv-xmit μ-xmit Inv-loop μ-loop
 returns c = whole (now (c .before .before .before .before .before .before .before .before .before .before .before .before .before .before .before .before .before .before .args .kinds)) (now (c .before .before .before .before .before .before .before .before .before .before .before .before .before .before .before .before .before .before .args .lengths)) (now (c .before .before .before .before .before .before .before .before .before .before .before .before .before .before .before .before .before .before .args .bytes)) (now (c .before .before .before .before .before .before .before .before .before .before .before .before .before .before .before .before .before .before .args .readings)) (then (now (c .before .before .before .before .before .before .before .before .before .before .before .before .before .before .before .before .before .before .args .kinds)) (now (c .before .before .before .before .before .before .before .before .before .before .before .before .before .before .before .before .before .before .args .lengths)) (now (c .before .before .before .before .before .before .before .before .before .before .before .before .before .before .before .before .before .before .args .bytes)) (now (c .before .before .before .before .before .before .before .before .before .before .before .before .before .before .before .before .before .before .args .readings)) (c .before .before .before .before .before .before .before .before .before .before .before .loop .inv) (c .before .before .before .before .before .before .before .before .before .before .xmit .inv)) (c .before .before .before .before .before .before .before .step .ensures) (c .before .r .given .1)
 
--- src/lib.rt:118:29
 enum-known-next : tie.Need-enum-known-next Inv-loop2 μ-loop2 Inv-xmit μ-xmit Inv-loop μ-loop
 enum-known-next c = search needs
 
--- src/lib.rt:121:21
 add-entries : tie.Need-add-entries Inv-loop2 μ-loop2 Inv-xmit μ-xmit Inv-loop μ-loop
 add-entries c = omega (arith, (goes-on (now (c .before .before .before .before .before .before .before .before .before .before .before .before .before .before .before .before .before .before .args .kinds)) (now (c .before .before .before .before .before .before .before .before .before .before .before .before .before .before .before .before .before .before .args .lengths)) (now (c .before .before .before .before .before .before .before .before .before .before .before .before .before .before .before .before .before .before .args .bytes)) (now (c .before .before .before .before .before .before .before .before .before .before .before .before .before .before .before .before .before .before .args .readings)) (c .before .before .before .before .before .before .before .before .before .before .xmit .inv) (c .before .before .before .before .before .before .before .step .ensures) (c .before .next .given .1)) .1, (c .before .before .before .before .before .before .before .before .before .before .before .loop .inv) .fits, (c .before .before .before .before .before .before .before .before .before .before .before .loop .inv) .long)
 
--- src/lib.rt:124:13
 loop2-holds : tie.Need-loop2-holds Inv-loop2 μ-loop2 Inv-xmit μ-xmit Inv-loop μ-loop
 loop2-holds c = let g = goes-on (now (c .before .before .before .before .before .before .before .before .before .before .before .before .before .before .before .before .before .before .args .kinds)) (now (c .before .before .before .before .before .before .before .before .before .before .before .before .before .before .before .before .before .before .args .lengths)) (now (c .before .before .before .before .before .before .before .before .before .before .before .before .before .before .before .before .before .before .args .bytes)) (now (c .before .before .before .before .before .before .before .before .before .before .before .before .before .before .before .before .before .before .args .readings)) (c .before .before .before .before .before .before .before .before .before .before .xmit .inv) (c .before .before .before .before .before .before .before .step .ensures) (c .before .next .given .1) in stays (now (c .before .before .before .before .before .before .before .before .before .before .before .before .before .before .before .before .before .before .args .kinds)) (now (c .before .before .before .before .before .before .before .before .before .before .before .before .before .before .before .before .before .before .args .lengths)) (now (c .before .before .before .before .before .before .before .before .before .before .before .before .before .before .before .before .before .before .args .bytes)) (now (c .before .before .before .before .before .before .before .before .before .before .before .before .before .before .before .before .before .before .args .readings)) (omega (arith, g .0 .room, g .0 .long)) (omega (arith, (c .before .before .before .before .before .before .before .before .before .before .before .loop .inv) .fits, (c .before .before .before .before .before .before .before .before .before .before .before .loop .inv) .long, g .0 .long))
 
--- src/lib.rt:124:19
 is-filling-requires :
     tie.Need-is-filling-requires Inv-loop2 μ-loop2 Inv-xmit μ-xmit Inv-loop μ-loop
 is-filling-requires c κs = search needs
 
--- src/lib.rt:109:9
 xmit-less : tie.Need-xmit-less Inv-loop2 μ-loop2 Inv-xmit μ-xmit Inv-loop μ-loop
 xmit-less c = omega (arith, (goes-on (now (c .before .before .before .before .before .before .before .before .before .before .before .before .before .before .before .before .before .before .before .before .before .args .kinds)) (now (c .before .before .before .before .before .before .before .before .before .before .before .before .before .before .before .before .before .before .before .before .before .args .lengths)) (now (c .before .before .before .before .before .before .before .before .before .before .before .before .before .before .before .before .before .before .before .before .before .args .bytes)) (now (c .before .before .before .before .before .before .before .before .before .before .before .before .before .before .before .before .before .before .before .before .before .args .readings)) (c .before .before .before .before .before .before .before .before .before .before .before .before .before .xmit .inv) (c .before .before .before .before .before .before .before .before .before .before .step .ensures) (c .before .before .before .before .next .given .1)) .1, (c .before .before .loop2 .inv) .up)
 
--- src/lib.rt:109:9
 xmit-again : tie.Need-xmit-again Inv-loop2 μ-loop2 Inv-xmit μ-xmit Inv-loop μ-loop
 xmit-again c = then (now (c .before .before .before .before .before .before .before .before .before .before .before .before .before .before .before .before .before .before .before .before .before .args .kinds)) (now (c .before .before .before .before .before .before .before .before .before .before .before .before .before .before .before .before .before .before .before .before .before .args .lengths)) (now (c .before .before .before .before .before .before .before .before .before .before .before .before .before .before .before .before .before .before .before .before .before .args .bytes)) (now (c .before .before .before .before .before .before .before .before .before .before .before .before .before .before .before .before .before .before .before .before .before .args .readings)) ((goes-on (now (c .before .before .before .before .before .before .before .before .before .before .before .before .before .before .before .before .before .before .before .before .before .args .kinds)) (now (c .before .before .before .before .before .before .before .before .before .before .before .before .before .before .before .before .before .before .before .before .before .args .lengths)) (now (c .before .before .before .before .before .before .before .before .before .before .before .before .before .before .before .before .before .before .before .before .before .args .bytes)) (now (c .before .before .before .before .before .before .before .before .before .before .before .before .before .before .before .before .before .before .before .before .before .args .readings)) (c .before .before .before .before .before .before .before .before .before .before .before .before .before .xmit .inv) (c .before .before .before .before .before .before .before .before .before .before .step .ensures) (c .before .before .before .before .next .given .1)) .0) (c .before .before .loop2 .inv)
 
--- src/lib.rt:125:23
 step-requires-2 : tie.Need-step-requires-2 Inv-loop2 μ-loop2 Inv-xmit μ-xmit Inv-loop μ-loop
 step-requires-2 c κs = search needs
 
--- src/lib.rt:126:38
 enum-known-r-2 : tie.Need-enum-known-r-2 Inv-loop2 μ-loop2 Inv-xmit μ-xmit Inv-loop μ-loop
 enum-known-r-2 c = search needs
 
--- src/lib.rt:127:25
 same-length-3 : tie.Need-same-length-3 Inv-loop2 μ-loop2 Inv-xmit μ-xmit Inv-loop μ-loop
 same-length-3 c = omega (arith, as-long (now (c .before .before .before .before .before .before .before .before .before .before .before .before .before .before .before .before .before .before .before .before .before .before .before .before .before .before .before .before .before .before .before .args .kinds)) (now (c .before .before .before .before .before .before .before .before .before .before .before .before .before .before .before .before .before .before .before .before .before .before .before .before .before .before .before .before .before .before .before .args .lengths)) (now (c .before .before .before .before .before .before .before .before .before .before .before .before .before .before .before .before .before .before .before .before .before .before .before .before .before .before .before .before .before .before .before .args .bytes)) (now (c .before .before .before .before .before .before .before .before .before .before .before .before .before .before .before .before .before .before .before .before .before .before .before .before .before .before .before .before .before .before .before .args .readings)) (c .before .before .before .before .before .before .before .step2 .ensures) .0, (c .before .before .before .before .before .before .before .before .before .before .before .before .loop2 .inv) .long, (goes-on (now (c .before .before .before .before .before .before .before .before .before .before .before .before .before .before .before .before .before .before .before .before .before .before .before .before .before .before .before .before .before .before .before .args .kinds)) (now (c .before .before .before .before .before .before .before .before .before .before .before .before .before .before .before .before .before .before .before .before .before .before .before .before .before .before .before .before .before .before .before .args .lengths)) (now (c .before .before .before .before .before .before .before .before .before .before .before .before .before .before .before .before .before .before .before .before .before .before .before .before .before .before .before .before .before .before .before .args .bytes)) (now (c .before .before .before .before .before .before .before .before .before .before .before .before .before .before .before .before .before .before .before .before .before .before .before .before .before .before .before .before .before .before .before .args .readings)) (c .before .before .before .before .before .before .before .before .before .before .before .before .before .before .before .before .before .before .before .before .before .before .before .xmit .inv) (c .before .before .before .before .before .before .before .before .before .before .before .before .before .before .before .before .before .before .before .before .step .ensures) (c .before .before .before .before .before .before .before .before .before .before .before .before .before .before .next .given .1)) .0 .long, (c .before .before .before .before .before .before .before .before .before .before .before .before .before .before .before .before .before .before .before .before .before .before .before .before .loop .inv) .long)
 
--- src/lib.rt:127:25
 same-length-4 : tie.Need-same-length-4 Inv-loop2 μ-loop2 Inv-xmit μ-xmit Inv-loop μ-loop
 same-length-4 c = omega (arith, as-long (now (c .before .before .before .before .before .before .before .before .before .before .before .before .before .before .before .before .before .before .before .before .before .before .before .before .before .before .before .before .before .before .before .args .kinds)) (now (c .before .before .before .before .before .before .before .before .before .before .before .before .before .before .before .before .before .before .before .before .before .before .before .before .before .before .before .before .before .before .before .args .lengths)) (now (c .before .before .before .before .before .before .before .before .before .before .before .before .before .before .before .before .before .before .before .before .before .before .before .before .before .before .before .before .before .before .before .args .bytes)) (now (c .before .before .before .before .before .before .before .before .before .before .before .before .before .before .before .before .before .before .before .before .before .before .before .before .before .before .before .before .before .before .before .args .readings)) (c .before .before .before .before .before .before .before .step2 .ensures) .1, (c .before .before .before .before .before .before .before .before .before .before .before .before .loop2 .inv) .wide, (goes-on (now (c .before .before .before .before .before .before .before .before .before .before .before .before .before .before .before .before .before .before .before .before .before .before .before .before .before .before .before .before .before .before .before .args .kinds)) (now (c .before .before .before .before .before .before .before .before .before .before .before .before .before .before .before .before .before .before .before .before .before .before .before .before .before .before .before .before .before .before .before .args .lengths)) (now (c .before .before .before .before .before .before .before .before .before .before .before .before .before .before .before .before .before .before .before .before .before .before .before .before .before .before .before .before .before .before .before .args .bytes)) (now (c .before .before .before .before .before .before .before .before .before .before .before .before .before .before .before .before .before .before .before .before .before .before .before .before .before .before .before .before .before .before .before .args .readings)) (c .before .before .before .before .before .before .before .before .before .before .before .before .before .before .before .before .before .before .before .before .before .before .before .xmit .inv) (c .before .before .before .before .before .before .before .before .before .before .before .before .before .before .before .before .before .before .before .before .step .ensures) (c .before .before .before .before .before .before .before .before .before .before .before .before .before .before .next .given .1)) .0 .wide, (c .before .before .before .before .before .before .before .before .before .before .before .before .before .before .before .before .before .before .before .before .before .before .before .before .loop .inv) .wide)
 
--- src/lib.rt:127:25
 returns-2 : tie.Need-returns-2 Inv-loop2 μ-loop2 Inv-xmit μ-xmit Inv-loop μ-loop
 returns-2 c = whole (now (c .before .before .before .before .before .before .before .before .before .before .before .before .before .before .before .before .before .before .before .before .before .before .before .before .before .before .before .before .before .before .before .args .kinds)) (now (c .before .before .before .before .before .before .before .before .before .before .before .before .before .before .before .before .before .before .before .before .before .before .before .before .before .before .before .before .before .before .before .args .lengths)) (now (c .before .before .before .before .before .before .before .before .before .before .before .before .before .before .before .before .before .before .before .before .before .before .before .before .before .before .before .before .before .before .before .args .bytes)) (now (c .before .before .before .before .before .before .before .before .before .before .before .before .before .before .before .before .before .before .before .before .before .before .before .before .before .before .before .before .before .before .before .args .readings)) (then (now (c .before .before .before .before .before .before .before .before .before .before .before .before .before .before .before .before .before .before .before .before .before .before .before .before .before .before .before .before .before .before .before .args .kinds)) (now (c .before .before .before .before .before .before .before .before .before .before .before .before .before .before .before .before .before .before .before .before .before .before .before .before .before .before .before .before .before .before .before .args .lengths)) (now (c .before .before .before .before .before .before .before .before .before .before .before .before .before .before .before .before .before .before .before .before .before .before .before .before .before .before .before .before .before .before .before .args .bytes)) (now (c .before .before .before .before .before .before .before .before .before .before .before .before .before .before .before .before .before .before .before .before .before .before .before .before .before .before .before .before .before .before .before .args .readings)) (c .before .before .before .before .before .before .before .before .before .before .before .before .before .before .before .before .before .before .before .before .before .before .before .before .loop .inv) (then (now (c .before .before .before .before .before .before .before .before .before .before .before .before .before .before .before .before .before .before .before .before .before .before .before .before .before .before .before .before .before .before .before .args .kinds)) (now (c .before .before .before .before .before .before .before .before .before .before .before .before .before .before .before .before .before .before .before .before .before .before .before .before .before .before .before .before .before .before .before .args .lengths)) (now (c .before .before .before .before .before .before .before .before .before .before .before .before .before .before .before .before .before .before .before .before .before .before .before .before .before .before .before .before .before .before .before .args .bytes)) (now (c .before .before .before .before .before .before .before .before .before .before .before .before .before .before .before .before .before .before .before .before .before .before .before .before .before .before .before .before .before .before .before .args .readings)) ((goes-on (now (c .before .before .before .before .before .before .before .before .before .before .before .before .before .before .before .before .before .before .before .before .before .before .before .before .before .before .before .before .before .before .before .args .kinds)) (now (c .before .before .before .before .before .before .before .before .before .before .before .before .before .before .before .before .before .before .before .before .before .before .before .before .before .before .before .before .before .before .before .args .lengths)) (now (c .before .before .before .before .before .before .before .before .before .before .before .before .before .before .before .before .before .before .before .before .before .before .before .before .before .before .before .before .before .before .before .args .bytes)) (now (c .before .before .before .before .before .before .before .before .before .before .before .before .before .before .before .before .before .before .before .before .before .before .before .before .before .before .before .before .before .before .before .args .readings)) (c .before .before .before .before .before .before .before .before .before .before .before .before .before .before .before .before .before .before .before .before .before .before .before .xmit .inv) (c .before .before .before .before .before .before .before .before .before .before .before .before .before .before .before .before .before .before .before .before .step .ensures) (c .before .before .before .before .before .before .before .before .before .before .before .before .before .before .next .given .1)) .0) (c .before .before .before .before .before .before .before .before .before .before .before .before .loop2 .inv))) (c .before .before .before .before .before .before .before .step2 .ensures) (c .before .r2 .given .1)
 
--- src/lib.rt:133:33
 enum-known-next-2 : tie.Need-enum-known-next-2 Inv-loop2 μ-loop2 Inv-xmit μ-xmit Inv-loop μ-loop
 enum-known-next-2 c = search needs
 
--- src/lib.rt:136:25
 add-entries-2 : tie.Need-add-entries-2 Inv-loop2 μ-loop2 Inv-xmit μ-xmit Inv-loop μ-loop
 add-entries-2 c = omega (arith, (goes-on (now (c .before .before .before .before .before .before .before .before .before .before .before .before .before .before .before .before .before .before .before .before .before .before .before .before .before .before .before .before .before .before .before .args .kinds)) (now (c .before .before .before .before .before .before .before .before .before .before .before .before .before .before .before .before .before .before .before .before .before .before .before .before .before .before .before .before .before .before .before .args .lengths)) (now (c .before .before .before .before .before .before .before .before .before .before .before .before .before .before .before .before .before .before .before .before .before .before .before .before .before .before .before .before .before .before .before .args .bytes)) (now (c .before .before .before .before .before .before .before .before .before .before .before .before .before .before .before .before .before .before .before .before .before .before .before .before .before .before .before .before .before .before .before .args .readings)) (c .before .before .before .before .before .before .before .before .before .before .before .before .loop2 .inv) (c .before .before .before .before .before .before .before .step2 .ensures) (c .before .next2 .given .1)) .1, (goes-on (now (c .before .before .before .before .before .before .before .before .before .before .before .before .before .before .before .before .before .before .before .before .before .before .before .before .before .before .before .before .before .before .before .args .kinds)) (now (c .before .before .before .before .before .before .before .before .before .before .before .before .before .before .before .before .before .before .before .before .before .before .before .before .before .before .before .before .before .before .before .args .lengths)) (now (c .before .before .before .before .before .before .before .before .before .before .before .before .before .before .before .before .before .before .before .before .before .before .before .before .before .before .before .before .before .before .before .args .bytes)) (now (c .before .before .before .before .before .before .before .before .before .before .before .before .before .before .before .before .before .before .before .before .before .before .before .before .before .before .before .before .before .before .before .args .readings)) (c .before .before .before .before .before .before .before .before .before .before .before .before .before .before .before .before .before .before .before .before .before .before .before .xmit .inv) (c .before .before .before .before .before .before .before .before .before .before .before .before .before .before .before .before .before .before .before .before .step .ensures) (c .before .before .before .before .before .before .before .before .before .before .before .before .before .before .next .given .1)) .0 .long, (c .before .before .before .before .before .before .before .before .before .before .before .before .before .before .before .before .before .before .before .before .before .before .before .before .loop .inv) .fits, (c .before .before .before .before .before .before .before .before .before .before .before .before .before .before .before .before .before .before .before .before .before .before .before .before .loop .inv) .long)
 
--- src/lib.rt:137:28
 has-ended-requires : tie.Need-has-ended-requires Inv-loop2 μ-loop2 Inv-xmit μ-xmit Inv-loop μ-loop
 has-ended-requires c κs = search needs
 
--- src/lib.rt:108:5
 loop-less : tie.Need-loop-less Inv-loop2 μ-loop2 Inv-xmit μ-xmit Inv-loop μ-loop
 loop-less c = omega (arith, (goes-on (now (c .before .before .before .before .before .before .before .before .before .before .before .before .before .before .before .before .before .before .before .before .before .before .before .before .before .before .before .before .before .before .before .before .before .args .kinds)) (now (c .before .before .before .before .before .before .before .before .before .before .before .before .before .before .before .before .before .before .before .before .before .before .before .before .before .before .before .before .before .before .before .before .before .args .lengths)) (now (c .before .before .before .before .before .before .before .before .before .before .before .before .before .before .before .before .before .before .before .before .before .before .before .before .before .before .before .before .before .before .before .before .before .args .bytes)) (now (c .before .before .before .before .before .before .before .before .before .before .before .before .before .before .before .before .before .before .before .before .before .before .before .before .before .before .before .before .before .before .before .before .before .args .readings)) (c .before .before .before .before .before .before .before .before .before .before .before .before .before .before .loop2 .inv) (c .before .before .before .before .before .before .before .before .before .step2 .ensures) (c .before .before .before .next2 .given .1)) .1, (goes-on (now (c .before .before .before .before .before .before .before .before .before .before .before .before .before .before .before .before .before .before .before .before .before .before .before .before .before .before .before .before .before .before .before .before .before .args .kinds)) (now (c .before .before .before .before .before .before .before .before .before .before .before .before .before .before .before .before .before .before .before .before .before .before .before .before .before .before .before .before .before .before .before .before .before .args .lengths)) (now (c .before .before .before .before .before .before .before .before .before .before .before .before .before .before .before .before .before .before .before .before .before .before .before .before .before .before .before .before .before .before .before .before .before .args .bytes)) (now (c .before .before .before .before .before .before .before .before .before .before .before .before .before .before .before .before .before .before .before .before .before .before .before .before .before .before .before .before .before .before .before .before .before .args .readings)) (c .before .before .before .before .before .before .before .before .before .before .before .before .before .before .before .before .before .before .before .before .before .before .before .before .before .xmit .inv) (c .before .before .before .before .before .before .before .before .before .before .before .before .before .before .before .before .before .before .before .before .before .before .step .ensures) (c .before .before .before .before .before .before .before .before .before .before .before .before .before .before .before .before .next .given .1)) .0 .long, (c .before .before .before .before .before .before .before .before .before .before .before .before .before .before .before .before .before .before .before .before .before .before .before .before .before .before .loop .inv) .long, (c .before .before .before .before .before .before .before .before .before .before .before .before .before .before .before .before .before .before .before .before .before .before .before .before .before .xmit .inv) .up, (c .before .before .before .before .before .before .before .before .before .before .before .before .before .before .loop2 .inv) .up)
 
--- src/lib.rt:108:5
 loop-again : tie.Need-loop-again Inv-loop2 μ-loop2 Inv-xmit μ-xmit Inv-loop μ-loop
 loop-again c = then (now (c .before .before .before .before .before .before .before .before .before .before .before .before .before .before .before .before .before .before .before .before .before .before .before .before .before .before .before .before .before .before .before .before .before .args .kinds)) (now (c .before .before .before .before .before .before .before .before .before .before .before .before .before .before .before .before .before .before .before .before .before .before .before .before .before .before .before .before .before .before .before .before .before .args .lengths)) (now (c .before .before .before .before .before .before .before .before .before .before .before .before .before .before .before .before .before .before .before .before .before .before .before .before .before .before .before .before .before .before .before .before .before .args .bytes)) (now (c .before .before .before .before .before .before .before .before .before .before .before .before .before .before .before .before .before .before .before .before .before .before .before .before .before .before .before .before .before .before .before .before .before .args .readings)) (c .before .before .before .before .before .before .before .before .before .before .before .before .before .before .before .before .before .before .before .before .before .before .before .before .before .before .loop .inv) (then (now (c .before .before .before .before .before .before .before .before .before .before .before .before .before .before .before .before .before .before .before .before .before .before .before .before .before .before .before .before .before .before .before .before .before .args .kinds)) (now (c .before .before .before .before .before .before .before .before .before .before .before .before .before .before .before .before .before .before .before .before .before .before .before .before .before .before .before .before .before .before .before .before .before .args .lengths)) (now (c .before .before .before .before .before .before .before .before .before .before .before .before .before .before .before .before .before .before .before .before .before .before .before .before .before .before .before .before .before .before .before .before .before .args .bytes)) (now (c .before .before .before .before .before .before .before .before .before .before .before .before .before .before .before .before .before .before .before .before .before .before .before .before .before .before .before .before .before .before .before .before .before .args .readings)) ((goes-on (now (c .before .before .before .before .before .before .before .before .before .before .before .before .before .before .before .before .before .before .before .before .before .before .before .before .before .before .before .before .before .before .before .before .before .args .kinds)) (now (c .before .before .before .before .before .before .before .before .before .before .before .before .before .before .before .before .before .before .before .before .before .before .before .before .before .before .before .before .before .before .before .before .before .args .lengths)) (now (c .before .before .before .before .before .before .before .before .before .before .before .before .before .before .before .before .before .before .before .before .before .before .before .before .before .before .before .before .before .before .before .before .before .args .bytes)) (now (c .before .before .before .before .before .before .before .before .before .before .before .before .before .before .before .before .before .before .before .before .before .before .before .before .before .before .before .before .before .before .before .before .before .args .readings)) (c .before .before .before .before .before .before .before .before .before .before .before .before .before .before .before .before .before .before .before .before .before .before .before .before .before .xmit .inv) (c .before .before .before .before .before .before .before .before .before .before .before .before .before .before .before .before .before .before .before .before .before .before .step .ensures) (c .before .before .before .before .before .before .before .before .before .before .before .before .before .before .before .before .next .given .1)) .0) ((goes-on (now (c .before .before .before .before .before .before .before .before .before .before .before .before .before .before .before .before .before .before .before .before .before .before .before .before .before .before .before .before .before .before .before .before .before .args .kinds)) (now (c .before .before .before .before .before .before .before .before .before .before .before .before .before .before .before .before .before .before .before .before .before .before .before .before .before .before .before .before .before .before .before .before .before .args .lengths)) (now (c .before .before .before .before .before .before .before .before .before .before .before .before .before .before .before .before .before .before .before .before .before .before .before .before .before .before .before .before .before .before .before .before .before .args .bytes)) (now (c .before .before .before .before .before .before .before .before .before .before .before .before .before .before .before .before .before .before .before .before .before .before .before .before .before .before .before .before .before .before .before .before .before .args .readings)) (c .before .before .before .before .before .before .before .before .before .before .before .before .before .before .loop2 .inv) (c .before .before .before .before .before .before .before .before .before .step2 .ensures) (c .before .before .before .next2 .given .1)) .0))
 
--- src/lib.rt:124:13
 loop2-less : tie.Need-loop2-less Inv-loop2 μ-loop2 Inv-xmit μ-xmit Inv-loop μ-loop
 loop2-less c = omega (arith, (goes-on (now (c .before .before .before .before .before .before .before .before .before .before .before .before .before .before .before .before .before .before .before .before .before .before .before .before .before .before .before .before .before .before .before .before .before .args .kinds)) (now (c .before .before .before .before .before .before .before .before .before .before .before .before .before .before .before .before .before .before .before .before .before .before .before .before .before .before .before .before .before .before .before .before .before .args .lengths)) (now (c .before .before .before .before .before .before .before .before .before .before .before .before .before .before .before .before .before .before .before .before .before .before .before .before .before .before .before .before .before .before .before .before .before .args .bytes)) (now (c .before .before .before .before .before .before .before .before .before .before .before .before .before .before .before .before .before .before .before .before .before .before .before .before .before .before .before .before .before .before .before .before .before .args .readings)) (c .before .before .before .before .before .before .before .before .before .before .before .before .before .before .loop2 .inv) (c .before .before .before .before .before .before .before .before .before .step2 .ensures) (c .before .before .before .next2 .given .1)) .1)
 
--- src/lib.rt:124:13
 loop2-again : tie.Need-loop2-again Inv-loop2 μ-loop2 Inv-xmit μ-xmit Inv-loop μ-loop
 loop2-again c = (goes-on (now (c .before .before .before .before .before .before .before .before .before .before .before .before .before .before .before .before .before .before .before .before .before .before .before .before .before .before .before .before .before .before .before .before .before .args .kinds)) (now (c .before .before .before .before .before .before .before .before .before .before .before .before .before .before .before .before .before .before .before .before .before .before .before .before .before .before .before .before .before .before .before .before .before .args .lengths)) (now (c .before .before .before .before .before .before .before .before .before .before .before .before .before .before .before .before .before .before .before .before .before .before .before .before .before .before .before .before .before .before .before .before .before .args .bytes)) (now (c .before .before .before .before .before .before .before .before .before .before .before .before .before .before .before .before .before .before .before .before .before .before .before .before .before .before .before .before .before .before .before .before .before .args .readings)) (c .before .before .before .before .before .before .before .before .before .before .before .before .before .before .loop2 .inv) (c .before .before .before .before .before .before .before .before .before .step2 .ensures) (c .before .before .before .next2 .given .1)) .0
 

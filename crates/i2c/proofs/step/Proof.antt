@@ -1,61 +1,43 @@
+-- `i2c::step` meets its contract.
 use Rattle.i2c.proofs.Driving.{halted, made}
 use denote.Ref.{now}
 use borrow.Author.Needs.{needs}
 use Rattle.i2c.proofs.step.Statement.{statement}
 use Rattle.i2c.proofs.step.Tie as tie
-use Rattle.i2c.proofs.step.Reads as reads
-use Rattle.i2c.proofs.step.Lts as lts
-use Rattle.regs.proofs.access.keep.Reads as keep-reads
-use Rattle.regs.proofs.access.perform.Reads as perform-reads
-use Rattle.transfer.proofs.advance.Reads as advance-reads
-use Rattle.transfer.proofs.next_access.Reads as next-access-reads
-use Rattle.transfer.proofs.store.Reads as store-reads
 
--- src/lib.rt:41:9
 next-access-requires : tie.Need-next-access-requires
 next-access-requires c κs = search needs
 
--- src/lib.rt:42:11
 perform-requires : tie.Need-perform-requires
 perform-requires c κs = search needs
 
--- src/lib.rt:43:28
 enum-known-r : tie.Need-enum-known-r
 enum-known-r c = search needs
 
--- src/lib.rt:44:24
 enum-known-v : tie.Need-enum-known-v
 enum-known-v c = search needs
 
--- src/lib.rt:45:40
 store-requires : tie.Need-store-requires
 store-requires c κs = search needs
 
--- src/lib.rt:45:13
 keep-requires : tie.Need-keep-requires
 keep-requires c κs = search needs
 
--- src/lib.rt:46:25
 advance-requires : tie.Need-advance-requires
 advance-requires c κs = search needs
 
--- src/lib.rt:28:1
 same-length : tie.Need-same-length
 same-length c = search needs
 
--- src/lib.rt:28:1
 returns : tie.Need-returns
 returns c = halted (now (c .before .before .before .before .before .before .before .before .before .before .before .before .before .before .args .kinds)) (now (c .before .before .before .before .before .before .before .before .before .before .before .before .before .before .args .lengths)) (now (c .before .before .before .before .before .before .before .before .before .before .before .before .before .before .args .bytes)) (now (c .before .before .before .before .before .before .before .before .before .before .before .before .before .before .args .readings)) (c .before .before .before .before .before .before .before .next-access .ensures) (c .before .before .before .before .before .perform .ensures) (c .before .r .given .1)
 
--- src/lib.rt:28:1
 same-length-2 : tie.Need-same-length-2
 same-length-2 c = search needs
 
--- src/lib.rt:28:1
 same-length-3 : tie.Need-same-length-3
 same-length-3 c = search needs
 
--- src/lib.rt:28:1
 returns-2 : tie.Need-returns-2
 returns-2 c = made (now (c .before .before .before .before .before .before .before .before .before .before .before .before .before .before .before .before .before .before .before .before .args .kinds)) (now (c .before .before .before .before .before .before .before .before .before .before .before .before .before .before .before .before .before .before .before .before .args .lengths)) (now (c .before .before .before .before .before .before .before .before .before .before .before .before .before .before .before .before .before .before .before .before .args .bytes)) (now (c .before .before .before .before .before .before .before .before .before .before .before .before .before .before .before .before .before .before .before .before .args .readings)) (c .before .before .before .before .before .before .before .before .before .before .before .before .before .next-access .ensures) (c .before .before .before .before .before .before .before .before .before .before .before .perform .ensures) (c .before .before .before .before .before .before .before .v .given .1) (c .before .before .before .before .store .ensures) (c .before .before .before .keep .ensures) (c .advance .ensures)
 
