@@ -10,5 +10,4 @@ pub mod Operations
 pub mod Listed
 pub mod Transfers
 pub mod Called
-pub mod Driving
 pub mod Sums

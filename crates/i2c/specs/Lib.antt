@@ -1,3 +1,2 @@
--- One step of a transfer over recorded readings. Only contracts of inner functions cite this: what the calls leave is said by the crate `master`.
-pub mod Steps
+-- The limits as the code tests them. Only contracts of inner functions cite this: what the calls leave is said by the crate `master`.
 pub mod Limits

@@ -1,11 +1,11 @@
 // The eight transfers, in the Rust's names. Each is given the lent buffers, the readings and the log; what it leaves is the outcome of the Rust on them.
-use super::drive;
 use super::limits::are_fitting;
 use super::limits::is_fitting;
 use super::limits::is_listed;
 use super::limits::refuse;
 use regs::access::Ran;
 use transfer::points::Mode;
+use transfer_run::drive;
 ghost use mathlib.Core.List.{[]};
 ghost use lib.ListN.{length};
 ghost use Rattle.regs.specs.Log.{Leaves, LeavesBuffer, expected};

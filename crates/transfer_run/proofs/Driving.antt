@@ -14,9 +14,9 @@ use Rattle.regs.proofs.Unroll.{at-stop, at-access, has-room}
 use Rattle.regs.proofs.Refine.{length-stored}
 use Rattle.transfer.specs.Machine.{machine, next-of, store-of, advance-of}
 use Rattle.transfer.specs.declared.points.Transfer.{Transfer}
-use Rattle.i2c.specs.Steps.{Steps, stepped, buffer-after}
-use Rattle.i2c.specs.declared.Stepped.{Stepped}
-use Rattle.i2c.specs.declared.Stepped.the-variants.{On, Stopped}
+use Rattle.transfer_run.specs.Steps.{Steps, stepped, buffer-after}
+use Rattle.transfer_run.specs.declared.Stepped.{Stepped}
+use Rattle.transfer_run.specs.declared.Stepped.the-variants.{On, Stopped}
 
 module _ (kinds lengths bytes readings : List ℕ) where
   -- from t₀, with e₀ entries and u₀ readings behind it, to t

@@ -8,8 +8,8 @@ use Rattle.regs.specs.declared.access.Performed.{Performed}
 use Rattle.regs.specs.declared.access.Performed.the-variants as P
 use Rattle.transfer.specs.Machine.{next-of, store-of, advance-of}
 use Rattle.transfer.specs.declared.points.Transfer.{Transfer}
-use Rattle.i2c.specs.declared.Stepped.{Stepped}
-use Rattle.i2c.specs.declared.Stepped.the-variants.{On, Stopped}
+use Rattle.transfer_run.specs.declared.Stepped.{Stepped}
+use Rattle.transfer_run.specs.declared.Stepped.the-variants.{On, Stopped}
 
 abbrev pub stepped : List ℕ → List ℕ → Transfer → Performed → Stepped
 stepped kinds lengths t (P.Did v u) = On (advance-of kinds lengths t v) u

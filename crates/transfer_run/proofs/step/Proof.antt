@@ -1,9 +1,9 @@
--- `i2c::step` meets its contract.
-use Rattle.i2c.proofs.Driving.{halted, made}
+-- `transfer_run::step` meets its contract.
+use Rattle.transfer_run.proofs.Driving.{halted, made}
 use denote.Ref.{now}
 use borrow.Author.Needs.{needs}
-use Rattle.i2c.proofs.step.Statement.{statement}
-use Rattle.i2c.proofs.step.Tie as tie
+use Rattle.transfer_run.proofs.step.Statement.{statement}
+use Rattle.transfer_run.proofs.step.Tie as tie
 
 next-access-requires : tie.Need-next-access-requires
 next-access-requires c κs = search needs

@@ -1,12 +1,12 @@
--- `i2c::drive` meets its contract.
-use Rattle.i2c.proofs.Driving.{Goes, stays, then, goes-on, whole, as-long}
+-- `transfer_run::drive` meets its contract.
+use Rattle.transfer_run.proofs.Driving.{Goes, stays, then, goes-on, whole, as-long}
 use denote.Ref.{now}
 use lib.ListN.{length}
 use Prim.Native.Nat.{_/_, _-_}
 use native.Mathlib.Omega.{arith}
 use borrow.Author.Needs.{needs}
-use Rattle.i2c.proofs.drive.Statement.{statement}
-use Rattle.i2c.proofs.drive.Tie as tie
+use Rattle.transfer_run.proofs.drive.Statement.{statement}
+use Rattle.transfer_run.proofs.drive.Tie as tie
 
 abbrev Inv-loop2 : tie.InvT-loop2
 Inv-loop2 kinds lengths bytes readings log₀ buffer₀ t₀ entries₀ used₀ log buffer t entries used = Goes kinds lengths bytes readings t₀ entries₀ used₀ log₀ buffer₀ t entries used log buffer

@@ -1,0 +1,2 @@
+-- The run of a transfer, between two of its states.
+pub mod Driving

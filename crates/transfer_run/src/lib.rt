@@ -1,0 +1,159 @@
+// A master transfer driven to its end over recorded readings: its steps, one after the other.
+
+use regs::access::Performed;
+use regs::access::Ran;
+use regs::answers::Reply;
+use transfer::points::FillPoint;
+use transfer::points::Point;
+use transfer::points::Transfer;
+ghost use mathlib.Core.Path.{_≡_};
+ghost use Prim.Native.Nat.{_/_};
+ghost use lib.ListN.{length};
+ghost use Rattle.regs.specs.Machine.{final, ran};
+ghost use Rattle.transfer.specs.Machine.{machine};
+ghost use Rattle.transfer_run.specs.Steps.{Steps};
+
+// A step was made, or the run stops.
+pub enum Stepped {
+    On(Transfer, usize),
+    Stopped(Reply),
+}
+
+fn step(
+    t: Transfer,
+    kinds: &[u8],
+    lengths: &[u16],
+    bytes: &[u8],
+    readings: &[u32],
+    used: usize,
+    log: &mut [u32],
+    entries: usize,
+    buffer: &mut [u8],
+) -> Stepped
+    ensures { λ r. ⌜ Steps (now (kinds .entry)) (now (lengths .entry)) (now (bytes .entry)) (now (readings .entry)) (now (log .entry)) (now (buffer .entry)) (now (log .exit)) (now (buffer .exit)) t used entries r ⌝ }
+{
+    let n = transfer::next_access(t, bytes);
+    match regs::access::perform(n, readings, used, log, entries) {
+        Performed::Stopped(r) => Stepped::Stopped(r),
+        Performed::Did(v, u) => {
+            regs::access::keep(buffer, transfer::store(t, v));
+            Stepped::On(transfer::advance(t, v, kinds, lengths), u)
+        }
+    }
+}
+
+// Whether the next access is a word of a queued write.
+fn is_filling(t: Transfer) -> bool {
+    let p = t.point;
+    match p {
+        Point::WriteAsync(f) => match f {
+            FillPoint::Fill(_, _) => true,
+            FillPoint::Free(_) => false,
+            FillPoint::Full(_) => false,
+        },
+        Point::Setup(_) => false,
+        Point::Abort(_, _) => false,
+        Point::ReadBlocking(_) => false,
+        Point::WriteBlocking(_) => false,
+        Point::ReadAsync(_) => false,
+        Point::Wait(_) => false,
+        Point::Stop(_) => false,
+        Point::Finished(_) => false,
+    }
+}
+
+// Whether a queued write has no byte left: after its last word it does not wait for a free place.
+fn has_ended(t: Transfer) -> bool {
+    let p = t.point;
+    match p {
+        Point::Abort(_, caller) => match caller {
+            transfer::points::Caller::Space(_) => false,
+            transfer::points::Caller::Read(_) => true,
+            transfer::points::Caller::Write(_) => true,
+            transfer::points::Caller::Batch(_, _) => true,
+            transfer::points::Caller::Stop(_) => true,
+        },
+        Point::WriteAsync(_) => false,
+        Point::Setup(_) => true,
+        Point::ReadBlocking(_) => true,
+        Point::WriteBlocking(_) => true,
+        Point::ReadAsync(_) => true,
+        Point::Wait(_) => true,
+        Point::Stop(_) => true,
+        Point::Finished(_) => true,
+    }
+}
+
+// The steps from a transfer to its end. A queued write goes by rounds, and in each by the free places of the FIFO; both loops are left when its bytes end.
+pub fn drive(
+    from: Transfer,
+    kinds: &[u8],
+    lengths: &[u16],
+    bytes: &[u8],
+    readings: &[u32],
+    log: &mut [u32],
+    buffer: &mut [u8],
+) -> Ran
+    ensures { λ r. ⌜ final (r .reply) (r .entries) (r .used) (now (log .exit)) (now (buffer .exit)) tt ≡ ran (machine (now (kinds .entry)) (now (lengths .entry)) (now (bytes .entry))) (now (readings .entry)) (length (now (log .entry)) / 2) from 0 0 (now (log .entry)) (now (buffer .entry)) ⌝ }
+{
+    let mut t = from;
+    let mut entries: usize = 0;
+    let mut used: usize = 0;
+    loop {
+        'xmit: loop {
+            match step(
+                t,
+                kinds,
+                lengths,
+                bytes,
+                readings,
+                used,
+                log,
+                entries,
+                buffer,
+            ) {
+                Stepped::Stopped(r) => {
+                    return Ran {
+                        reply: r,
+                        entries,
+                        used,
+                    };
+                }
+                Stepped::On(next, u) => {
+                    t = next;
+                    used = u;
+                    entries += 1;
+                }
+            }
+            while is_filling(t) {
+                match step(
+                    t,
+                    kinds,
+                    lengths,
+                    bytes,
+                    readings,
+                    used,
+                    log,
+                    entries,
+                    buffer,
+                ) {
+                    Stepped::Stopped(r) => {
+                        return Ran {
+                            reply: r,
+                            entries,
+                            used,
+                        };
+                    }
+                    Stepped::On(next, u) => {
+                        t = next;
+                        used = u;
+                        entries += 1;
+                        if has_ended(t) {
+                            break 'xmit;
+                        }
+                    }
+                }
+            }
+        }
+    }
+}
