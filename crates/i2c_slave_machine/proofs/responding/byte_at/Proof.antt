@@ -1,0 +1,72 @@
+use borrow.Author.Needs.{needs}
+use Rattle.i2c_slave_machine.proofs.responding.byte_at.Statement.{statement}
+use Rattle.i2c_slave_machine.proofs.responding.byte_at.Tie as tie
+use Rattle.i2c_slave_machine.proofs.responding.byte_at.Reads as reads
+use Rattle.i2c_slave_machine.proofs.responding.byte_at.Lts as lts
+use Rattle.i2c_slave_machine.proofs.responding.byte_of.Reads as byte-of-reads
+use Rattle.i2c_slave_machine.proofs.responding.wide.Reads as wide-reads
+
+-- src/responding.rt:73:25
+enum-told : tie.Need-enum-told
+enum-told c = search needs
+
+-- src/responding.rt:73:25
+byte-of-requires : tie.Need-byte-of-requires
+byte-of-requires c κs = search needs
+
+-- src/responding.rt:74:36
+enum-told-2 : tie.Need-enum-told-2
+enum-told-2 c = search needs
+
+-- src/responding.rt:74:36
+byte-of-requires-2 : tie.Need-byte-of-requires-2
+byte-of-requires-2 c κs = search needs
+
+-- src/responding.rt:75:19
+enum-known-job : tie.Need-enum-known-job
+enum-known-job c = search needs
+
+-- src/responding.rt:75:25
+wide-requires : tie.Need-wide-requires
+wide-requires c κs = search needs
+
+-- src/responding.rt:76:24
+enum-known-job-2 : tie.Need-enum-known-job-2
+enum-known-job-2 c = search needs
+
+-- src/responding.rt:76:30
+wide-requires-2 : tie.Need-wide-requires-2
+wide-requires-2 c κs = search needs
+
+-- src/responding.rt:69:1
+returns : tie.Need-returns
+returns c = simp (c .before .enum-told .given .1, c .byte-of .ensures)
+
+-- src/responding.rt:69:1
+returns-2 : tie.Need-returns-2
+returns-2 c = simp (c .before .enum-told2 .given .1, c .byte-of2 .ensures)
+
+-- src/responding.rt:69:1
+returns-3 : tie.Need-returns-3
+returns-3 c = search needs
+
+-- src/responding.rt:69:1
+returns-4 : tie.Need-returns-4
+returns-4 c = search needs
+
+pub byte-at-spec : {M : Type 1} → statement M
+byte-at-spec =
+    tie.close
+    (tie.spec
+    enum-told
+    byte-of-requires
+    enum-told-2
+    byte-of-requires-2
+    enum-known-job
+    wide-requires
+    enum-known-job-2
+    wide-requires-2
+    returns
+    returns-2
+    returns-3
+    returns-4)
