@@ -1,0 +1,42 @@
+use borrow.Author.Needs.{needs}
+use Rattle.slave_steps.proofs.respond.answer.Statement.{statement}
+use Rattle.slave_steps.proofs.respond.answer.Tie as tie
+use Rattle.slave_steps.proofs.respond.answer.Reads as reads
+use Rattle.slave_steps.proofs.respond.answer.Lts as lts
+
+-- src/respond.rt:91:25
+enum-told : tie.Need-enum-told
+enum-told c = search needs
+
+-- src/respond.rt:92:36
+enum-told-2 : tie.Need-enum-told-2
+enum-told-2 c = search needs
+
+-- src/respond.rt:93:25
+enum-told-3 : tie.Need-enum-told-3
+enum-told-3 c = search needs
+
+-- src/respond.rt:94:48
+enum-told-4 : tie.Need-enum-told-4
+enum-told-4 c = search needs
+
+-- src/respond.rt:87:1
+returns : tie.Need-returns
+returns c = simp (c .enum-told .given .1)
+
+-- src/respond.rt:87:1
+returns-2 : tie.Need-returns-2
+returns-2 c = simp (c .enum-told2 .given .1)
+
+-- src/respond.rt:87:1
+returns-3 : tie.Need-returns-3
+returns-3 c = search needs
+
+-- src/respond.rt:87:1
+returns-4 : tie.Need-returns-4
+returns-4 c = simp (c .enum-told4 .given .1)
+
+pub answer-spec : {M : Type 1} → statement M
+answer-spec =
+    tie.close
+    (tie.spec enum-told enum-told-2 enum-told-3 enum-told-4 returns returns-2 returns-3 returns-4)
