@@ -6,40 +6,37 @@ use mathlib.Core.List.{List}
 use mathlib.Core.Path.{_≡_, refl, ap}
 use lib.Dec.{eqb, ltb}
 use lib.ListN.{set}
-use borrow.Author.Tests.{lt-ltb, le-ltb, eqb-false}
+use borrow.Author.Tests.{lt-ltb, le-ltb}
 use Rattle.regs.specs.Registers.{RX-TL, INTR-MASK}
 use Rattle.regs.specs.Fields.{set-field, dat, rd-req, stop-det, gen-call, restart-det, rfne, level}
-use Rattle.regs.specs.Program.{Behaviour, ends, writes, put, by-turn, polled, Turn, Poll, pending, Result, when, exit, return, _>>_, _>>=_}
+use Rattle.regs.specs.Program.{Behaviour, ends, writes, put, by-turn, polled, Turn, Poll, pending, Result}
 use Rattle.regs.specs.Machine.{Machine, stored-in}
 use Rattle.regs.specs.declared.answers.Answer.{Answer}
-use Rattle.regs.specs.declared.answers.Answer.the-variants.{Heard, Refused}
+use Rattle.regs.specs.declared.answers.Answer.the-variants.{Heard}
 use Rattle.regs.specs.declared.answers.Command.{Command}
 use Rattle.regs.specs.declared.answers.Refusal.{Refusal}
-use Rattle.regs.specs.declared.answers.Refusal.the-variants.{NoPlaceForPending}
 use Rattle.regs.specs.declared.access.Next.the-variants as N
 use Rattle.regs.proofs.Refine.{Agree, ends-agree, reads-agree, writes-agree, marks-agree, stores-agree, asks-agree, keeps-agree, loop-agree}
-use Rattle.slave_steps.specs.I2cSlave.{answer, is-some, with-pending, drain-places, listen-drain, listen-command, listen-poll, listen-mask, Listened, listen, listen-call}
-use Rattle.slave_steps.specs.Machine.{machine, slave, settled, drain-from, after-level, is-next, listen-moved, start-listen, listen-point}
-use Rattle.slave_steps.specs.declared.Slave.{Slave}
-use Rattle.slave_steps.specs.declared.SlaveState.{SlaveState}
-use Rattle.slave_steps.specs.declared.Pending.{Pending}
-use Rattle.slave_steps.specs.declared.Pending.the-variants.{None, Byte}
-use Rattle.slave_steps.specs.declared.listen.ListenPoint.the-variants as L
-use Rattle.slave_steps.specs.declared.Point.the-variants.{Listening}
-use Rattle.slave_steps.proofs.Small.{by-test, or-true, none-pending}
+use Rattle.slave_state.specs.I2cSlave.{answer, is-some, with-pending, drain-places, listen-drain, listen-command, listen-poll, listen-mask, Listened, listen}
+use Rattle.slave_listen.specs.Machine.{Listener, listener, machine, settled, drain-from, after-level, is-next}
+use Rattle.slave_state.specs.declared.SlaveState.{SlaveState}
+use Rattle.slave_state.specs.declared.Pending.{Pending}
+use Rattle.slave_state.specs.declared.Pending.the-variants.{None, Byte}
+use Rattle.slave_listen.specs.declared.ListenPoint.the-variants as L
+use Rattle.slave_state.proofs.Small.{by-test, or-true, none-pending}
 
 -- the code's mask is what the setters make of 0
 mask-is : N.Write INTR-MASK 0x1a24 ≡ N.Write INTR-MASK listen-mask
 unfolding set-field
 mask-is = refl
 
-module _ (bytes : List ℕ) (length : ℕ) where
+module _ (length : ℕ) where
   abbrev M : Machine
-  M = machine bytes
+  M = machine
 
   -- where a poll starts
-  abbrev at : ℕ → SlaveState → Slave
-  at len me = slave me length (Listening (L.RawIntrStat len))
+  abbrev at : ℕ → SlaveState → Listener
+  at len me = listener me length (L.RawIntrStat len)
 
   -- a pending byte has a place there
   abbrev Holds : ℕ → SlaveState → Type 0
@@ -55,12 +52,12 @@ module _ (bytes : List ℕ) (length : ℕ) where
 
   -- a poll that is not done
   sleeps : (m len : ℕ) (me : SlaveState) (b : List ℕ) (t : ℕ → Behaviour SlaveState Answer) (n : ℕ) → Holds len me → Back m t
-      → Agree M m (slave me length (Listening (L.IntrMask len))) b b me (after n t (pending len))
+      → Agree M m (listener me length (L.IntrMask len)) b b me (after n t (pending len))
   sleeps m len me b t n holds back = writes-agree M m mask-is (λ m₁ l₁. marks-agree M m₁ refl (λ m₂ l₂. back m₂ (omega arith) len me b holds))
 
   -- what a poll says, with the FIFO drained
   settles : (m stat len : ℕ) (me : SlaveState) (b : List ℕ) (t : ℕ → Behaviour SlaveState Answer) (n : ℕ) → Holds len me → Back m t
-      → Agree M m (slave me length (Listening (settled length stat len))) b b me (listen-command length stat len n (after n t))
+      → Agree M m (listener me length (settled length stat len)) b b me (listen-command length stat len n (after n t))
   settles m stat len me b t n holds back =
       by-test (eqb length len)
       (λ e. rw e (by-test (gen-call stat) (λ q. rw q (ends-agree M m refl)) (λ q. rw q (ends-agree M m refl))))
@@ -78,12 +75,12 @@ module _ (bytes : List ℕ) (length : ℕ) where
 
   -- the drain is over
   marks-water : (m stat len : ℕ) (me : SlaveState) (b : List ℕ) (t : ℕ → Behaviour SlaveState Answer) (n : ℕ) → Holds len me → Back m t
-      → Agree M m (slave me length (Listening (L.Watermark stat len))) b b me (writes RX-TL 11 (listen-command length stat len n (after n t)))
+      → Agree M m (listener me length (L.Watermark stat len)) b b me (writes RX-TL 11 (listen-command length stat len n (after n t)))
   marks-water m stat len me b t n holds back = writes-agree M m refl (λ m₁ l₁. settles m₁ stat len me b t n holds (λ m₂ l₂. back m₂ (omega arith)))
 
   -- the drain, with `places` places from the offset on
   drains : (places m stat offset : ℕ) (me : SlaveState) (b : List ℕ) (t : ℕ → Behaviour SlaveState Answer) (n : ℕ) → me .«pending_byte» ≡ None → length - offset ≡ places → Back m t
-      → Agree M m (slave me length (Listening (drain-from length stat offset))) b b me (drain-places places offset n (λ len. writes RX-TL 11 (listen-command length stat len n (after n t))))
+      → Agree M m (listener me length (drain-from length stat offset)) b b me (drain-places places offset n (λ len. writes RX-TL 11 (listen-command length stat len n (after n t))))
   unfolding drain-places
   drains zero m stat offset me b t n none e back =
       rw (le-ltb offset length (omega arith)) (marks-water m stat offset me b t n (none-pending none) back)
@@ -103,7 +100,7 @@ module _ (bytes : List ℕ) (length : ℕ) where
 
   -- after the level is read, with a byte pending and with none
   levels : (p : Pending) (address : ℕ) (g : Bool) (m stat len v : ℕ) (b : List ℕ) (t : ℕ → Behaviour SlaveState Answer) (n : ℕ) → (is-some p ≡ true → len < length) → Back m t
-      → Agree M m (listen-moved (state p address g) length (after-level length stat len p v) .slave) (stored-in b (after-level length stat len p v .store)) b (state p address g)
+      → Agree M m (listener (with-pending (after-level length stat len p v .pending) (state p address g)) length (after-level length stat len p v .point)) (stored-in b (after-level length stat len p v .store)) b (state p address g)
       (listen-drain length len v n (λ len. listen-command length stat len n (after n t)))
   levels None address g m stat len v b t n holds back =
       asks-agree M m (by-test (ltb 0 (level v))
@@ -121,25 +118,9 @@ module _ (bytes : List ℕ) (length : ℕ) where
       reads-agree M m₁ refl (λ m₂ l₂ v.
       levels (me .«pending_byte») (me .address) (me .«general_call») m₂ stat len v b t n holds (λ m₃ l₃. back m₃ (omega arith))))
 
-  starts : (me : SlaveState) (b : List ℕ) (m n : ℕ) → m ≤ n → Holds 0 me → Agree M m (slave me length (Listening L.RxTl)) b b me (listen length n (λ r. ends (answer Heard r)))
+  pub listens : (me : SlaveState) (b : List ℕ) (m n : ℕ) → m ≤ n → Holds 0 me → Agree M m (listener me length L.RxTl) b b me (listen length n (λ r. ends (answer Heard r)))
   unfolding listen
-  starts me b m n h holds =
+  listens me b m n h holds =
       writes-agree M m refl (λ m₁ l₁.
       loop-agree M n _ (λ r. ends (answer Heard r)) at Holds n m₁ (omega arith)
       (λ m₂ l₂ len me b holds t back. polls m₂ len me b t n holds back) 0 me b holds)
-
-  pub listen-agrees : (me : SlaveState) (b : List ℕ) (m n : ℕ) → m ≤ n → Agree M m (start-listen me length) b b me (listen-call length n ends)
-  unfolding listen-call
-  listen-agrees me b m n h =
-      by-test (ltb 4096 length)
-      (λ q. rw q (ends-agree M m refl))
-      (λ q. rw q (asks-agree M m (go (me .«pending_byte») (me .address) (me .«general_call»))))
-    where
-      go : (p : Pending) (address : ℕ) (g : Bool)
-          → Agree M m (slave (state p address g) length (listen-point p length)) b b (state p address g)
-          ((when (is-some p && eqb length 0) (exit (Refused NoPlaceForPending)) >> (listen length >>= (λ r. return (answer Heard r)))) n ends)
-      go None address g = starts _ b m n h (λ e. none-pending refl e)
-      go (Byte c) address g =
-          by-test (eqb length 0)
-          (λ q. rw q (ends-agree M m refl))
-          (λ q. rw q (starts _ b m n h (λ _. let z : length ≡ 0 → ⊥ = eqb-false length 0 q in omega arith)))

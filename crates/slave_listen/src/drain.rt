@@ -1,12 +1,11 @@
 // The steps of `drain_fifo`, from the reading of RXFLR that decides whether `listen` calls it.
-use super::Pending;
-use super::listen;
-use super::listen::ListenPoint;
-use super::listen::Listened;
+use super::ListenPoint;
+use super::Listened;
 use regs::access::Store;
 use regs::fields;
+use slave_state::Pending;
 ghost use mathlib.Core.Path.{_≡_};
-ghost use Rattle.slave_steps.specs.Machine.{drain-from, after-level, after-status, is-next, after-data};
+ghost use Rattle.slave_listen.specs.Machine.{drain-from, after-level, after-status, is-next, after-data};
 
 // The drain at an offset: a place, or the end of the buffer.
 fn drain_from(stat: u32, offset: u16, length: u16) -> ListenPoint
@@ -31,9 +30,9 @@ pub fn after_level(stat: u32, len: u16, pending: Pending, v: u32, length: u16) -
 {
     match pending {
         Pending::None => if 0 < fields::level_of(v) {
-            listen::stay(Pending::None, drain_from(stat, len, length))
+            super::stay(Pending::None, drain_from(stat, len, length))
         } else {
-            listen::stay(Pending::None, listen::settle(stat, len, length))
+            super::stay(Pending::None, super::settle(stat, len, length))
         },
         Pending::Byte(b) => if len < length {
             Listened {
@@ -42,7 +41,7 @@ pub fn after_level(stat: u32, len: u16, pending: Pending, v: u32, length: u16) -
                 store: Store::Byte(wide(len), b),
             }
         } else {
-            listen::stay(Pending::None, drain_from(stat, len, length))
+            super::stay(Pending::None, drain_from(stat, len, length))
         },
     }
 }
@@ -68,7 +67,7 @@ pub fn after_data(stat: u32, offset: u16, pending: Pending, v: u32, length: u16)
     ensures { λ r. ⌜ r ≡ after-data length stat offset pending v ⌝ }
 {
     if is_next(v, offset) {
-        return listen::stay(
+        return super::stay(
             Pending::Byte(fields::byte_of(v)),
             ListenPoint::Watermark(stat, offset),
         );
@@ -80,5 +79,5 @@ pub fn after_data(stat: u32, offset: u16, pending: Pending, v: u32, length: u16)
             store: Store::Byte(wide(offset), fields::byte_of(v)),
         };
     }
-    listen::stay(pending, ListenPoint::Watermark(stat, offset))
+    super::stay(pending, ListenPoint::Watermark(stat, offset))
 }

@@ -5,7 +5,7 @@ use native.Mathlib.Numerals.{add-one}
 use mathlib.Core.Bool.{Bool, true, false, _&&_}
 use mathlib.Core.List.{List, [], _∷_}
 use mathlib.Core.Path.{_≡_, refl, sym, ap}
-use lib.Dec.{eqb, ltb, eqb·suc-zero}
+use lib.Dec.{eqb, ltb}
 use lib.ListN.{length, getD, take, drop, replicate, getD-replicate, length-drop, drop-of-length-le}
 use lib.Seq.{drop-cons, drop-drop, take-all}
 use borrow.Author.Tests.{lt-ltb, le-ltb, ltb-true, ltb-false}
@@ -20,19 +20,17 @@ use Rattle.regs.specs.declared.answers.ReadStatus.the-variants.{Done, NeedMoreB
 use Rattle.regs.specs.declared.answers.Refusal.{Refusal}
 use Rattle.regs.specs.declared.answers.Refusal.the-variants.{Abort}
 use Rattle.regs.specs.declared.answers.Answer.{Answer}
-use Rattle.regs.specs.declared.answers.Answer.the-variants.{Responded, Refused}
+use Rattle.regs.specs.declared.answers.Answer.the-variants.{Accepted, Responded, Refused}
 use Rattle.regs.specs.declared.access.Next.the-variants as N
 use Rattle.regs.proofs.Refine.{Agree, ends-agree, reads-agree, writes-agree, marks-agree, loop-agree}
-use Rattle.slave_steps.specs.I2cSlave.{Driver, Responded-to, FIFO-SIZE, is-empty, abort-reason, send-chunk, respond-chunk, respond-abort, respond-poll, respond-mask, respond-to-read, till-stop, respond-till-stop, and-fill, respond-and-fill, answer, respond-to-read-call, respond-till-stop-call, respond-and-fill-call}
-use Rattle.slave_steps.specs.Machine.{machine, slave, count-of, byte-at, response, more-bytes, fed, after-reason, start-respond, start-fill}
-use Rattle.slave_steps.specs.declared.Slave.{Slave}
-use Rattle.slave_steps.specs.declared.SlaveState.{SlaveState}
-use Rattle.slave_steps.specs.declared.respond.Job.{Job}
-use Rattle.slave_steps.specs.declared.respond.Job.the-variants.{Respond, RespondThenFill, Fill, FillAfter}
-use Rattle.slave_steps.specs.declared.respond.RespondPoint.the-variants as P
-use Rattle.slave_steps.specs.declared.respond.Response.{Response}
-use Rattle.slave_steps.specs.declared.Point.the-variants.{Responding}
-use Rattle.slave_steps.proofs.Small.{by-test}
+use Rattle.slave_state.specs.I2cSlave.{Driver, Responded-to, FIFO-SIZE, is-empty, abort-reason, send-chunk, respond-chunk, respond-abort, respond-poll, respond-mask, respond-to-read, till-stop, respond-till-stop, and-fill, respond-and-fill, answer}
+use Rattle.slave_respond.specs.Machine.{Responder, responder, machine, count-of, byte-at, response, more-bytes, fed, after-reason}
+use Rattle.slave_state.specs.declared.SlaveState.{SlaveState}
+use Rattle.slave_respond.specs.declared.Job.{Job}
+use Rattle.slave_respond.specs.declared.Job.the-variants.{Respond, RespondThenFill, Fill, FillAfter}
+use Rattle.slave_respond.specs.declared.RespondPoint.the-variants as P
+use Rattle.slave_respond.specs.declared.Response.{Response}
+use Rattle.slave_state.proofs.Small.{by-test}
 
 -- the code's mask is what the setters make of 0
 mask-is : N.Write INTR-MASK 0xd0 ≡ N.Write INTR-MASK respond-mask
@@ -64,13 +62,13 @@ module _ (bytes : List ℕ) where
   byte-is (FillAfter f) i h = sym (getD-replicate 16 i f 0 h)
 
   module _ (job : Job) (size : ℕ) (count-is : count-of job size ≡ length (source-of job)) (me : SlaveState) (n : ℕ) (K : Result ReadStatus Refusal → Behaviour SlaveState Answer)
-      (fails : (m : ℕ) (a : AbortReason) (b : List ℕ) → Agree M m (slave me size (Responding (response job (P.Aborted a)))) b b me (K (err (Abort a)))) where
+      (fails : (m : ℕ) (a : AbortReason) (b : List ℕ) → Agree M m (responder me size (response job (P.Aborted a))) b b me (K (err (Abort a)))) where
     abbrev src : List ℕ
     src = source-of job
 
     -- where a poll starts: the bytes that are left are those from i on
-    abbrev at : List ℕ → ℕ → Slave
-    at rest i = slave me size (Responding (response job (P.RawIntrStat i)))
+    abbrev at : List ℕ → ℕ → Responder
+    at rest i = responder me size (response job (P.RawIntrStat i))
 
     abbrev Holds : List ℕ → ℕ → Type 0
     Holds rest i = rest ≡ drop i src
@@ -80,19 +78,19 @@ module _ (bytes : List ℕ) where
     Back m t = (m′ : ℕ) → m′ < m → (rest : List ℕ) (i : ℕ) (b : List ℕ) → Holds rest i → Agree M m′ (at rest i) b b me (t rest)
 
     abbrev Outs : ℕ → Type 0
-    Outs m = (m′ : ℕ) → m′ ≤ m → (s : ReadStatus) (b : List ℕ) → Agree M m′ (slave me size (Responding (answered job s))) b b me (K (ok s))
+    Outs m = (m′ : ℕ) → m′ ≤ m → (s : ReadStatus) (b : List ℕ) → Agree M m′ (responder me size (answered job s)) b b me (K (ok s))
 
     abbrev after : (List ℕ → Behaviour SlaveState Answer) → Responded-to → Behaviour SlaveState Answer
     after t r = polled (put INTR-MASK respond-mask) r n (λ w. by-turn w t K)
 
     sleeps : (m i : ℕ) (rest b : List ℕ) (t : List ℕ → Behaviour SlaveState Answer) → Holds rest i → Back m t
-        → Agree M m (slave me size (Responding (response job (P.IntrMask i)))) b b me (after t (pending rest))
+        → Agree M m (responder me size (response job (P.IntrMask i))) b b me (after t (pending rest))
     sleeps m i rest b t holds back = writes-agree M m mask-is (λ m₁ l₁. marks-agree M m₁ refl (λ m₂ l₂. back m₂ (omega arith) rest i b holds))
 
     -- byte i of a chunk that ends at e, with `more` bytes after it
     sends : (more m i e : ℕ) (chunk b : List ℕ) (t : Behaviour SlaveState Answer) → chunk ≡ take (suc more) (drop i src) → i + suc more ≡ e → e ≤ length src
-        → ((m′ : ℕ) → m′ < m → Agree M m′ (slave me size (Responding (response job (P.IntrMask e)))) b b me t)
-        → Agree M m (slave me size (Responding (response job (P.ClrRdReq i e)))) b b me (send-chunk chunk n (λ _. t))
+        → ((m′ : ℕ) → m′ < m → Agree M m′ (responder me size (response job (P.IntrMask e))) b b me t)
+        → Agree M m (responder me size (response job (P.ClrRdReq i e))) b b me (send-chunk chunk n (λ _. t))
     unfolding send-chunk
     sends zero m i e chunk b t c h l out =
         let g : i < length src = omega arith in
@@ -110,7 +108,7 @@ module _ (bytes : List ℕ) where
 
     -- what a poll without an abort comes to
     feeds : (m stat i : ℕ) (rest b : List ℕ) (t : List ℕ → Behaviour SlaveState Answer) → Holds rest i → Back m t → Outs m
-        → Agree M m (slave me size (Responding (fed job stat i (count-of job size)))) b b me (respond-chunk stat rest n (after t))
+        → Agree M m (responder me size (fed job stat i (count-of job size))) b b me (respond-chunk stat rest n (after t))
     feeds m stat i rest b t holds back outs =
         rw count-is
         (by-test (ltb i (length src))
@@ -143,7 +141,7 @@ module _ (bytes : List ℕ) where
         (λ q₂. rw q₂ (sleeps m i rest b t holds back)))))))
 
     aborts : (m : ℕ) (a : AbortReason) (b : List ℕ) (p : Driver Responded-to) (t : List ℕ → Behaviour SlaveState Answer) → Outs m
-        → Agree M m (slave me size (Responding (response job (after-reason a)))) b b me (respond-abort (err a) p n (after t))
+        → Agree M m (responder me size (response job (after-reason a))) b b me (respond-abort (err a) p n (after t))
     aborts m A.NoAcknowledge b p t outs = fails m A.NoAcknowledge b
     aborts m A.ArbitrationLoss b p t outs = fails m A.ArbitrationLoss b
     aborts m (A.TxNotEmpty k) b p t outs = reads-agree M m refl (λ m₁ l₁ v. outs m₁ (omega arith) (LeftoverBytes k) b)
@@ -163,7 +161,7 @@ module _ (bytes : List ℕ) where
 
     -- the wait of `respond_to_read`
     pub waits : (m : ℕ) (buffer b : List ℕ) → m ≤ n → buffer ≡ src → ((m′ : ℕ) → m′ < m → Outs m′)
-        → Agree M m (slave me size (Responding (response job (P.RawIntrStat 0)))) b b me (wait-on buffer respond-poll (put INTR-MASK respond-mask) n K)
+        → Agree M m (responder me size (response job (P.RawIntrStat 0))) b b me (wait-on buffer respond-poll (put INTR-MASK respond-mask) n K)
     waits m buffer b h e outs =
         loop-agree M n _ K at Holds n m h
         (λ m₁ l₁ rest i b₁ holds t back. polls m₁ i rest b₁ t holds back (λ m₂ l₂. outs m₂ (omega arith))) buffer 0 b e
@@ -171,60 +169,50 @@ module _ (bytes : List ℕ) where
   -- `respond_till_stop`, of a job that sends the fill byte again and again
   module _ (job : Job) (f size : ℕ) (count-is : count-of job size ≡ length (source-of job)) (source : replicate FIFO-SIZE f ≡ source-of job)
       (once-more : more-bytes job ≡ response job (P.RawIntrStat 0)) (me : SlaveState) (n : ℕ) (K : Result (Unit {0}) Refusal → Behaviour SlaveState Answer)
-      (fails : (m : ℕ) (a : AbortReason) (b : List ℕ) → Agree M m (slave me size (Responding (response job (P.Aborted a)))) b b me (K (err (Abort a))))
-      (is-done : (m : ℕ) (b : List ℕ) → Agree M m (slave me size (Responding (answered job Done))) b b me (K (ok tt)))
-      (is-over : (m k : ℕ) (b : List ℕ) → Agree M m (slave me size (Responding (answered job (LeftoverBytes k)))) b b me (K (ok tt))) where
-    fills : (m : ℕ) (b : List ℕ) → m ≤ n → Agree M m (slave me size (Responding (response job (P.RawIntrStat 0)))) b b me (respond-till-stop f n K)
+      (fails : (m : ℕ) (a : AbortReason) (b : List ℕ) → Agree M m (responder me size (response job (P.Aborted a))) b b me (K (err (Abort a))))
+      (is-done : (m : ℕ) (b : List ℕ) → Agree M m (responder me size (answered job Done)) b b me (K (ok tt)))
+      (is-over : (m k : ℕ) (b : List ℕ) → Agree M m (responder me size (answered job (LeftoverBytes k))) b b me (K (ok tt))) where
+    fills : (m : ℕ) (b : List ℕ) → m ≤ n → Agree M m (responder me size (response job (P.RawIntrStat 0))) b b me (respond-till-stop f n K)
     unfolding respond-till-stop respond-to-read
     fills m b h =
-        loop-agree M n _ K (λ (x : Unit {0}) (y : Unit {0}). slave me size (Responding (response job (P.RawIntrStat 0)))) (λ x y. Unit {0}) n m h
+        loop-agree M n _ K (λ (x : Unit {0}) (y : Unit {0}). responder me size (response job (P.RawIntrStat 0))) (λ x y. Unit {0}) n m h
         (λ m₁ l₁ x y b₁ _ t back. waits job size count-is me n (λ r. by-turn (till-stop r) t K) fails m₁ _ b₁ (omega arith) source
         (λ m₂ l₂ m₃ l₃ s b₂. ends-so m₁ t (λ m₄ l₄ b₃. back m₄ l₄ tt tt b₃ tt) m₃ (omega arith) s b₂)) tt tt b tt
       where
-        ends-so : (m₁ : ℕ) (t : Unit {0} → Behaviour SlaveState Answer) → ((m₄ : ℕ) → m₄ < m₁ → (b₃ : List ℕ) → Agree M m₄ (slave me size (Responding (response job (P.RawIntrStat 0)))) b₃ b₃ me (t tt))
-            → (m₃ : ℕ) → m₃ < m₁ → (s : ReadStatus) (b₂ : List ℕ) → Agree M m₃ (slave me size (Responding (answered job s))) b₂ b₂ me (by-turn (till-stop (ok s)) t K)
+        ends-so : (m₁ : ℕ) (t : Unit {0} → Behaviour SlaveState Answer) → ((m₄ : ℕ) → m₄ < m₁ → (b₃ : List ℕ) → Agree M m₄ (responder me size (response job (P.RawIntrStat 0))) b₃ b₃ me (t tt))
+            → (m₃ : ℕ) → m₃ < m₁ → (s : ReadStatus) (b₂ : List ℕ) → Agree M m₃ (responder me size (answered job s)) b₂ b₂ me (by-turn (till-stop (ok s)) t K)
         ends-so m₁ t back m₃ l Done b₂ = is-done m₃ b₂
         ends-so m₁ t back m₃ l NeedMoreBytes b₂ = rw once-more (back m₃ l b₂)
         ends-so m₁ t back m₃ l (LeftoverBytes k) b₂ = is-over m₃ k b₂
 
--- ---- the calls
+-- ---- the Rust's functions, as the calls have them
 
-pub respond-agrees : (bytes : List ℕ) (me : SlaveState) (b : List ℕ) (m n : ℕ) → m ≤ n
-    → Agree (machine bytes) m (start-respond me Respond (length bytes)) b b me (respond-to-read-call bytes n ends)
-unfolding respond-to-read respond-to-read-call
-respond-agrees [] me b m n h = ends-agree (machine []) m refl
-respond-agrees (x ∷ xs) me b m n h =
-    by-test (ltb 4096 (length (x ∷ xs)))
-    (λ q. rw q (ends-agree (machine (x ∷ xs)) m refl))
-    (λ q. rw (q, eqb·suc-zero (length xs))
-    (waits (x ∷ xs) Respond (length (x ∷ xs)) refl me n _ (λ m₁ a b₁. ends-agree (machine (x ∷ xs)) m₁ refl) m (x ∷ xs) b h refl
-    (λ m₁ l₁ m₂ l₂ s b₁. status m₂ s b₁)))
+pub responds : (x : ℕ) (xs : List ℕ) (me : SlaveState) (b : List ℕ) (m n : ℕ) → m ≤ n
+    → Agree (machine (x ∷ xs)) m (responder me (length (x ∷ xs)) (response Respond (P.RawIntrStat 0))) b b me (respond-to-read (x ∷ xs) n (λ r. ends (answer Responded r)))
+unfolding respond-to-read
+responds x xs me b m n h =
+    waits (x ∷ xs) Respond (length (x ∷ xs)) refl me n _ (λ m₁ a b₁. ends-agree (machine (x ∷ xs)) m₁ refl) m (x ∷ xs) b h refl (λ m₁ l₁ m₂ l₂ s b₁. status m₂ s b₁)
   where
-    status : (m₂ : ℕ) (s : ReadStatus) (b₁ : List ℕ) → Agree (machine (x ∷ xs)) m₂ (slave me (length (x ∷ xs)) (Responding (answered Respond s))) b₁ b₁ me (ends (Responded s))
+    status : (m₂ : ℕ) (s : ReadStatus) (b₁ : List ℕ) → Agree (machine (x ∷ xs)) m₂ (responder me (length (x ∷ xs)) (answered Respond s)) b₁ b₁ me (ends (Responded s))
     status m₂ Done b₁ = ends-agree (machine (x ∷ xs)) m₂ refl
     status m₂ NeedMoreBytes b₁ = ends-agree (machine (x ∷ xs)) m₂ refl
     status m₂ (LeftoverBytes k) b₁ = ends-agree (machine (x ∷ xs)) m₂ refl
 
-pub respond-till-stop-agrees : (bytes : List ℕ) (f : ℕ) (me : SlaveState) (b : List ℕ) (m n : ℕ) → m ≤ n
-    → Agree (machine bytes) m (start-fill me f) b b me (respond-till-stop-call f n ends)
-unfolding respond-till-stop-call
-respond-till-stop-agrees bytes f me b m n h =
+pub responds-till-stop : (bytes : List ℕ) (f : ℕ) (me : SlaveState) (b : List ℕ) (m n : ℕ) → m ≤ n
+    → Agree (machine bytes) m (responder me 0 (response (Fill f) (P.RawIntrStat 0))) b b me (respond-till-stop f n (λ r. ends (answer (λ _. Accepted) r)))
+responds-till-stop bytes f me b m n h =
     fills bytes (Fill f) f 0 refl refl refl me n _ (λ m₁ a b₁. ends-agree (machine bytes) m₁ refl)
     (λ m₁ b₁. ends-agree (machine bytes) m₁ refl) (λ m₁ k b₁. ends-agree (machine bytes) m₁ refl) m b h
 
-pub respond-and-fill-agrees : (bytes : List ℕ) (f : ℕ) (me : SlaveState) (b : List ℕ) (m n : ℕ) → m ≤ n
-    → Agree (machine bytes) m (start-respond me (RespondThenFill f) (length bytes)) b b me (respond-and-fill-call bytes f n ends)
-unfolding respond-to-read respond-and-fill respond-and-fill-call
-respond-and-fill-agrees [] f me b m n h = ends-agree (machine []) m refl
-respond-and-fill-agrees (x ∷ xs) f me b m n h =
-    by-test (ltb 4096 (length (x ∷ xs)))
-    (λ q. rw q (ends-agree (machine (x ∷ xs)) m refl))
-    (λ q. rw (q, eqb·suc-zero (length xs))
-    (waits (x ∷ xs) (RespondThenFill f) (length (x ∷ xs)) refl me n _ (λ m₁ a b₁. ends-agree (machine (x ∷ xs)) m₁ refl) m (x ∷ xs) b h refl
-    (λ m₁ l₁ m₂ l₂ s b₁. goes-on m₂ (omega arith) s b₁)))
+pub responds-and-fills : (x : ℕ) (xs : List ℕ) (f : ℕ) (me : SlaveState) (b : List ℕ) (m n : ℕ) → m ≤ n
+    → Agree (machine (x ∷ xs)) m (responder me (length (x ∷ xs)) (response (RespondThenFill f) (P.RawIntrStat 0))) b b me (respond-and-fill (x ∷ xs) f n (λ r. ends (answer Responded r)))
+unfolding respond-to-read respond-and-fill
+responds-and-fills x xs f me b m n h =
+    waits (x ∷ xs) (RespondThenFill f) (length (x ∷ xs)) refl me n _ (λ m₁ a b₁. ends-agree (machine (x ∷ xs)) m₁ refl) m (x ∷ xs) b h refl
+    (λ m₁ l₁ m₂ l₂ s b₁. goes-on m₂ (omega arith) s b₁)
   where
     goes-on : (m₂ : ℕ) → m₂ ≤ n → (s : ReadStatus) (b₁ : List ℕ)
-        → Agree (machine (x ∷ xs)) m₂ (slave me (length (x ∷ xs)) (Responding (answered (RespondThenFill f) s))) b₁ b₁ me (and-fill f (ok s) n (λ r. ends (answer Responded r)))
+        → Agree (machine (x ∷ xs)) m₂ (responder me (length (x ∷ xs)) (answered (RespondThenFill f) s)) b₁ b₁ me (and-fill f (ok s) n (λ r. ends (answer Responded r)))
     goes-on m₂ l Done b₁ = ends-agree (machine (x ∷ xs)) m₂ refl
     goes-on m₂ l (LeftoverBytes k) b₁ = ends-agree (machine (x ∷ xs)) m₂ refl
     goes-on m₂ l NeedMoreBytes b₁ =

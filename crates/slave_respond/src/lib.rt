@@ -1,4 +1,4 @@
-// The points of `respond_to_read`, and what a response sends and leads to.
+// `respond_to_read` as a machine of one access a step, with what a response sends and leads to. The crate `slave_steps` joins it with the slave's other machines.
 use regs::access::Next;
 use regs::answers::AbortReason;
 use regs::answers::Answer;
@@ -9,8 +9,8 @@ ghost use mathlib.Core.Bool.{_&&_};
 ghost use mathlib.Core.Path.{_≡_};
 ghost use lib.ListN.{getD};
 ghost use Rattle.regs.specs.Fields.{rd-req, tx-empty};
-ghost use Rattle.slave_steps.specs.I2cSlave.{abort-reason};
-ghost use Rattle.slave_steps.specs.Machine.{count-of, byte-at, answer-of, next-respond, response, chunk-end, more-bytes, fed, after-reason, after-byte, advance-respond};
+ghost use Rattle.slave_state.specs.I2cSlave.{abort-reason};
+ghost use Rattle.slave_respond.specs.Machine.{count-of, byte-at, answer-of, next-respond, response, chunk-end, more-bytes, fed, after-reason, after-byte, advance-respond};
 
 // RX_DONE, TX_EMPTY and TX_ABRT in INTR_MASK.
 const MASK: u32 = 1 << 7 | 1 << 4 | 1 << 6;
@@ -23,6 +23,7 @@ pub enum Job {
     FillAfter(u8),
 }
 
+// The access that is next, with the index of the byte and the end of its chunk where they are still wanted.
 pub enum RespondPoint {
     RawIntrStat(u16),
     TxAbrtSource(u32, u16),

@@ -16,10 +16,10 @@ use Rattle.regs.specs.declared.answers.ReadStatus.the-variants.{Done, NeedMoreB
 use Rattle.regs.specs.declared.answers.Refusal.the-variants.{Abort, InvalidResponseBufferLength, PartialWrite, PartialGeneralCall, SlaveAddressZero, NoPlaceForPending, OverLimits}
 use Rattle.regs.specs.declared.answers.Reply.{Reply}
 use Rattle.regs.specs.declared.answers.Reply.the-variants.{Answered, OutOfReadings, LogFull}
-use Rattle.slave_steps.specs.I2cSlave.{drain-places, listen, listen-call, reset, reset-call, send-chunk, respond-to-read, respond-to-read-call, respond-till-stop, respond-till-stop-call, respond-and-fill, respond-and-fill-call}
-use Rattle.slave_steps.specs.declared.Pending.{Pending}
-use Rattle.slave_steps.specs.declared.Pending.the-variants.{None, Byte}
-use Rattle.slave_steps.specs.declared.SlaveState.{SlaveState}
+use Rattle.slave_state.specs.I2cSlave.{drain-places, listen, listen-call, reset, reset-call, send-chunk, respond-to-read, respond-to-read-call, respond-till-stop, respond-till-stop-call, respond-and-fill, respond-and-fill-call}
+use Rattle.slave_state.specs.declared.Pending.{Pending}
+use Rattle.slave_state.specs.declared.Pending.the-variants.{None, Byte}
+use Rattle.slave_state.specs.declared.SlaveState.{SlaveState}
 
 abbrev me : Pending → SlaveState
 me p = record { «pending_byte» = p; address = 0x55; «general_call» = true }

@@ -2,9 +2,9 @@
 use Prim.Native.Nat.{ℕ}
 use mathlib.Core.Bool.{Bool, true, false, _||_, true≢false}
 use mathlib.Core.Path.{_≡_, refl, sym}
-use Rattle.slave_steps.specs.I2cSlave.{is-some}
-use Rattle.slave_steps.specs.declared.Pending.{Pending}
-use Rattle.slave_steps.specs.declared.Pending.the-variants.{None}
+use Rattle.slave_state.specs.I2cSlave.{is-some}
+use Rattle.slave_state.specs.declared.Pending.{Pending}
+use Rattle.slave_state.specs.declared.Pending.the-variants.{None}
 
 -- by cases of a test, with what it said
 pub by-test : {P : Type 0} (q : Bool) → (q ≡ true → P) → (q ≡ false → P) → P

@@ -17,9 +17,9 @@ use Rattle.regs.specs.declared.answers.Refusal.{Refusal}
 use Rattle.regs.specs.declared.answers.Refusal.the-variants.{Abort, InvalidResponseBufferLength, PartialWrite, PartialGeneralCall, SlaveAddressZero, NoPlaceForPending, OverLimits}
 use Rattle.regs.specs.declared.answers.Answer.{Answer}
 use Rattle.regs.specs.declared.answers.Answer.the-variants.{Accepted, Heard, Responded, Refused}
-use Rattle.slave_steps.specs.declared.Pending.{Pending}
-use Rattle.slave_steps.specs.declared.Pending.the-variants.{None, Byte}
-use Rattle.slave_steps.specs.declared.SlaveState.{SlaveState}
+use Rattle.slave_state.specs.declared.Pending.{Pending}
+use Rattle.slave_state.specs.declared.Pending.the-variants.{None, Byte}
+use Rattle.slave_state.specs.declared.SlaveState.{SlaveState}
 
 -- a part of the driver, with the state `self`
 abbrev pub Driver : Type 0 → Type 0

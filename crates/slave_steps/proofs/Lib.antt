@@ -1,6 +1,3 @@
--- The machine does what src/i2c_slave.rs does.
-pub mod Small
+-- The machine does what each call of src/i2c_slave.rs does.
 pub mod Resets
-pub mod Listens
-pub mod Responds
-pub mod Corners
+pub mod Agrees

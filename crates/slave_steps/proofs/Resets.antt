@@ -7,10 +7,10 @@ use lib.Dec.{eqb}
 use Rattle.regs.specs.Program.{ends}
 use Rattle.regs.specs.Machine.{Machine}
 use Rattle.regs.proofs.Refine.{Agree, ends-agree, reads-agree, writes-agree, marks-agree, asks-agree, keeps-agree}
-use Rattle.slave_steps.specs.I2cSlave.{reset, reset-call}
+use Rattle.slave_state.specs.I2cSlave.{reset, reset-call}
 use Rattle.slave_steps.specs.Machine.{machine, start-reset}
-use Rattle.slave_steps.specs.declared.SlaveState.{SlaveState}
-use Rattle.slave_steps.proofs.Small.{by-test}
+use Rattle.slave_state.specs.declared.SlaveState.{SlaveState}
+use Rattle.slave_state.proofs.Small.{by-test}
 
 module _ (bytes : List ℕ) where
   abbrev M : Machine

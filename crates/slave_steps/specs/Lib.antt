@@ -1,3 +1,2 @@
--- The slave: src/i2c_slave.rs written down, and the machine.
-pub mod I2cSlave
+-- The slave's machine.
 pub mod Machine

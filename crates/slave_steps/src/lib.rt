@@ -1,33 +1,19 @@
-// The slave driver as a machine of one access a step. The calls that run it are in the crate `i2c_slave` above this one, so that each is proved quickly.
+// The slave driver as one machine of one access a step, over the machines of `listen` and of a response.
 pub mod reset; // the points of `reset`
-pub mod drain; // the steps of `drain_fifo`
-pub mod listen; // the points of `listen`
-pub mod respond; // the points of `respond_to_read`, and what is sent
 
-use listen::ListenPoint;
 use regs::access::Next;
 use regs::access::Store;
 use regs::answers::Answer;
 use regs::answers::Refusal;
 use reset::ResetPoint;
-use respond::Job;
-use respond::RespondPoint;
-use respond::Response;
+use slave_listen::ListenPoint;
+use slave_respond::Job;
+use slave_respond::RespondPoint;
+use slave_respond::Response;
+use slave_state::Pending;
+use slave_state::SlaveState;
 ghost use mathlib.Core.Path.{_≡_};
 ghost use Rattle.slave_steps.specs.Machine.{slave, start-reset, start-listen, listen-point, start-respond, start-fill, next-at, moved, advance-at};
-
-// The byte that was received for the next message, if any: the Rust's `Option<u8>`.
-pub enum Pending {
-    None,
-    Byte(u8),
-}
-
-// What lasts from call to call.
-pub struct SlaveState {
-    pub pending_byte: Pending,
-    pub address: u16,
-    pub general_call: bool,
-}
 
 // Where a call stands: the access that is next.
 pub enum Point {
@@ -156,8 +142,8 @@ pub fn next_access(s: Slave, bytes: &[u8]) -> Next
         Point::Refused(why) => Next::Finished(Answer::Refused(why)),
         Point::BlockReset(_, _) => Next::Mark(regs::BLOCK_RESET),
         Point::Resetting(p) => reset::next(p, s.state.address, s.state.general_call),
-        Point::Listening(p) => listen::next(p),
-        Point::Responding(r) => respond::next(r, bytes),
+        Point::Listening(p) => slave_listen::next(p),
+        Point::Responding(r) => slave_respond::next(r, bytes),
     }
 }
 
@@ -191,7 +177,7 @@ fn advance_listen(state: SlaveState, length: u16, p: ListenPoint, v: u32) -> Mov
     ensures { λ r. ⌜ r ≡ advance-at (Point.Listening p) state length v ⌝ }
 {
     let pending = state.pending_byte;
-    let l = listen::advance(p, pending, v, length);
+    let l = slave_listen::advance(p, pending, v, length);
     let pending_byte = l.pending;
     let point = l.point;
     let store = l.store;
@@ -223,7 +209,7 @@ pub fn advance(s: Slave, v: u32) -> Moved
         Point::Responding(r) => move_to(
             state,
             length,
-            Point::Responding(respond::advance(r, v, length)),
+            Point::Responding(slave_respond::advance(r, v, length)),
             Store::Nothing,
         ),
     }

@@ -1,13 +1,13 @@
 use borrow.Author.Needs.{needs}
-use Rattle.slave_steps.proofs.listen.advance.Statement.{statement}
-use Rattle.slave_steps.proofs.listen.advance.Tie as tie
-use Rattle.slave_steps.proofs.listen.advance.Reads as reads
-use Rattle.slave_steps.proofs.listen.advance.Lts as lts
-use Rattle.slave_steps.proofs.drain.after_data.Reads as after-data-reads
-use Rattle.slave_steps.proofs.drain.after_level.Reads as after-level-reads
-use Rattle.slave_steps.proofs.drain.after_status.Reads as after-status-reads
-use Rattle.slave_steps.proofs.listen.settle.Reads as settle-reads
-use Rattle.slave_steps.proofs.listen.stay.Reads as stay-reads
+use Rattle.slave_listen.proofs.advance.Statement.{statement}
+use Rattle.slave_listen.proofs.advance.Tie as tie
+use Rattle.slave_listen.proofs.advance.Reads as reads
+use Rattle.slave_listen.proofs.advance.Lts as lts
+use Rattle.slave_listen.proofs.drain.after_data.Reads as after-data-reads
+use Rattle.slave_listen.proofs.drain.after_level.Reads as after-level-reads
+use Rattle.slave_listen.proofs.drain.after_status.Reads as after-status-reads
+use Rattle.slave_listen.proofs.settle.Reads as settle-reads
+use Rattle.slave_listen.proofs.stay.Reads as stay-reads
 
 -- src/listen.rt:136:44
 enum-told : tie.Need-enum-told

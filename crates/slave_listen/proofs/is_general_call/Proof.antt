@@ -1,8 +1,8 @@
 use borrow.Author.Needs.{needs}
-use Rattle.slave_steps.proofs.listen.is_general_call.Statement.{statement}
-use Rattle.slave_steps.proofs.listen.is_general_call.Tie as tie
-use Rattle.slave_steps.proofs.listen.is_general_call.Reads as reads
-use Rattle.slave_steps.proofs.listen.is_general_call.Lts as lts
+use Rattle.slave_listen.proofs.is_general_call.Statement.{statement}
+use Rattle.slave_listen.proofs.is_general_call.Tie as tie
+use Rattle.slave_listen.proofs.is_general_call.Reads as reads
+use Rattle.slave_listen.proofs.is_general_call.Lts as lts
 use Rattle.regs.proofs.fields.has_gen_call.Reads as has-gen-call-reads
 use Rattle.regs.proofs.fields.has_stop_det.Reads as has-stop-det-reads
 

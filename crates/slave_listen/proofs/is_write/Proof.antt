@@ -1,8 +1,8 @@
 use borrow.Author.Needs.{needs}
-use Rattle.slave_steps.proofs.listen.is_write.Statement.{statement}
-use Rattle.slave_steps.proofs.listen.is_write.Tie as tie
-use Rattle.slave_steps.proofs.listen.is_write.Reads as reads
-use Rattle.slave_steps.proofs.listen.is_write.Lts as lts
+use Rattle.slave_listen.proofs.is_write.Statement.{statement}
+use Rattle.slave_listen.proofs.is_write.Tie as tie
+use Rattle.slave_listen.proofs.is_write.Reads as reads
+use Rattle.slave_listen.proofs.is_write.Lts as lts
 use Rattle.regs.proofs.fields.has_stop_det.Reads as has-stop-det-reads
 
 -- src/listen.rt:90:5

@@ -1,8 +1,8 @@
 use borrow.Author.Needs.{needs}
-use Rattle.slave_steps.proofs.listen.is_write_read.Statement.{statement}
-use Rattle.slave_steps.proofs.listen.is_write_read.Tie as tie
-use Rattle.slave_steps.proofs.listen.is_write_read.Reads as reads
-use Rattle.slave_steps.proofs.listen.is_write_read.Lts as lts
+use Rattle.slave_listen.proofs.is_write_read.Statement.{statement}
+use Rattle.slave_listen.proofs.is_write_read.Tie as tie
+use Rattle.slave_listen.proofs.is_write_read.Reads as reads
+use Rattle.slave_listen.proofs.is_write_read.Lts as lts
 use Rattle.regs.proofs.fields.has_rd_req.Reads as has-rd-req-reads
 use Rattle.regs.proofs.fields.has_restart_det.Reads as has-restart-det-reads
 

@@ -1,8 +1,8 @@
 use borrow.Author.Needs.{needs}
-use Rattle.slave_steps.proofs.listen.next.Statement.{statement}
-use Rattle.slave_steps.proofs.listen.next.Tie as tie
-use Rattle.slave_steps.proofs.listen.next.Reads as reads
-use Rattle.slave_steps.proofs.listen.next.Lts as lts
+use Rattle.slave_listen.proofs.next.Statement.{statement}
+use Rattle.slave_listen.proofs.next.Tie as tie
+use Rattle.slave_listen.proofs.next.Reads as reads
+use Rattle.slave_listen.proofs.next.Lts as lts
 
 -- src/listen.rt:52:30
 enum-told : tie.Need-enum-told

@@ -1,16 +1,16 @@
 use borrow.Author.Tests.{eq-eqb, ne-eqb}
 use mathlib.Core.Path.{sym, _∙_}
 use borrow.Author.Needs.{needs}
-use Rattle.slave_steps.proofs.listen.settle.Statement.{statement}
-use Rattle.slave_steps.proofs.listen.settle.Tie as tie
-use Rattle.slave_steps.proofs.listen.settle.Reads as reads
-use Rattle.slave_steps.proofs.listen.settle.Lts as lts
+use Rattle.slave_listen.proofs.settle.Statement.{statement}
+use Rattle.slave_listen.proofs.settle.Tie as tie
+use Rattle.slave_listen.proofs.settle.Reads as reads
+use Rattle.slave_listen.proofs.settle.Lts as lts
 use Rattle.regs.proofs.fields.has_gen_call.Reads as has-gen-call-reads
 use Rattle.regs.proofs.fields.has_rd_req.Reads as has-rd-req-reads
 use Rattle.regs.proofs.fields.has_stop_det.Reads as has-stop-det-reads
-use Rattle.slave_steps.proofs.listen.is_general_call.Reads as is-general-call-reads
-use Rattle.slave_steps.proofs.listen.is_write.Reads as is-write-reads
-use Rattle.slave_steps.proofs.listen.is_write_read.Reads as is-write-read-reads
+use Rattle.slave_listen.proofs.is_general_call.Reads as is-general-call-reads
+use Rattle.slave_listen.proofs.is_write.Reads as is-write-reads
+use Rattle.slave_listen.proofs.is_write_read.Reads as is-write-read-reads
 
 -- src/listen.rt:98:12
 has-gen-call-requires : tie.Need-has-gen-call-requires

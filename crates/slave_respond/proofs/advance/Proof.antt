@@ -1,17 +1,17 @@
 use borrow.Author.Tests.{eq-eqb, ne-eqb}
 use mathlib.Core.Path.{sym, _∙_}
 use borrow.Author.Needs.{needs}
-use Rattle.slave_steps.proofs.respond.advance.Statement.{statement}
-use Rattle.slave_steps.proofs.respond.advance.Tie as tie
-use Rattle.slave_steps.proofs.respond.advance.Reads as reads
-use Rattle.slave_steps.proofs.respond.advance.Lts as lts
+use Rattle.slave_respond.proofs.advance.Statement.{statement}
+use Rattle.slave_respond.proofs.advance.Tie as tie
+use Rattle.slave_respond.proofs.advance.Reads as reads
+use Rattle.slave_respond.proofs.advance.Lts as lts
 use Rattle.regs.proofs.fields.has_tx_abrt.Reads as has-tx-abrt-reads
-use Rattle.slave_steps.proofs.respond.after_byte.Reads as after-byte-reads
-use Rattle.slave_steps.proofs.respond.after_reason.Reads as after-reason-reads
-use Rattle.slave_steps.proofs.respond.count.Reads as count-reads
-use Rattle.slave_steps.proofs.respond.feed.Reads as feed-reads
-use Rattle.slave_steps.proofs.respond.on.Reads as on-reads
-use Rattle.slave_steps.proofs.respond.reason.Reads as reason-reads
+use Rattle.slave_respond.proofs.after_byte.Reads as after-byte-reads
+use Rattle.slave_respond.proofs.after_reason.Reads as after-reason-reads
+use Rattle.slave_respond.proofs.count.Reads as count-reads
+use Rattle.slave_respond.proofs.feed.Reads as feed-reads
+use Rattle.slave_respond.proofs.on.Reads as on-reads
+use Rattle.slave_respond.proofs.reason.Reads as reason-reads
 
 -- src/respond.rt:218:35
 enum-known-point : tie.Need-enum-known-point

@@ -1,9 +1,9 @@
 use borrow.Author.Tests.{le-ltb, lt-ltb}
 use borrow.Author.Needs.{needs}
-use Rattle.slave_steps.proofs.respond.after_byte.Statement.{statement}
-use Rattle.slave_steps.proofs.respond.after_byte.Tie as tie
-use Rattle.slave_steps.proofs.respond.after_byte.Reads as reads
-use Rattle.slave_steps.proofs.respond.after_byte.Lts as lts
+use Rattle.slave_respond.proofs.after_byte.Statement.{statement}
+use Rattle.slave_respond.proofs.after_byte.Tie as tie
+use Rattle.slave_respond.proofs.after_byte.Reads as reads
+use Rattle.slave_respond.proofs.after_byte.Lts as lts
 
 -- src/respond.rt:204:12
 add-if2 : tie.Need-add-if2

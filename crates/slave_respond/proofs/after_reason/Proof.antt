@@ -1,8 +1,8 @@
 use borrow.Author.Needs.{needs}
-use Rattle.slave_steps.proofs.respond.after_reason.Statement.{statement}
-use Rattle.slave_steps.proofs.respond.after_reason.Tie as tie
-use Rattle.slave_steps.proofs.respond.after_reason.Reads as reads
-use Rattle.slave_steps.proofs.respond.after_reason.Lts as lts
+use Rattle.slave_respond.proofs.after_reason.Statement.{statement}
+use Rattle.slave_respond.proofs.after_reason.Tie as tie
+use Rattle.slave_respond.proofs.after_reason.Reads as reads
+use Rattle.slave_respond.proofs.after_reason.Lts as lts
 
 -- src/respond.rt:192:61
 enum-told : tie.Need-enum-told

@@ -1,8 +1,8 @@
 use borrow.Author.Needs.{needs}
-use Rattle.slave_steps.proofs.respond.answer.Statement.{statement}
-use Rattle.slave_steps.proofs.respond.answer.Tie as tie
-use Rattle.slave_steps.proofs.respond.answer.Reads as reads
-use Rattle.slave_steps.proofs.respond.answer.Lts as lts
+use Rattle.slave_respond.proofs.answer.Statement.{statement}
+use Rattle.slave_respond.proofs.answer.Tie as tie
+use Rattle.slave_respond.proofs.answer.Reads as reads
+use Rattle.slave_respond.proofs.answer.Lts as lts
 
 -- src/respond.rt:91:25
 enum-told : tie.Need-enum-told

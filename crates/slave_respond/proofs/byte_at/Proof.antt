@@ -1,10 +1,10 @@
 use borrow.Author.Needs.{needs}
-use Rattle.slave_steps.proofs.respond.byte_at.Statement.{statement}
-use Rattle.slave_steps.proofs.respond.byte_at.Tie as tie
-use Rattle.slave_steps.proofs.respond.byte_at.Reads as reads
-use Rattle.slave_steps.proofs.respond.byte_at.Lts as lts
-use Rattle.slave_steps.proofs.respond.byte_of.Reads as byte-of-reads
-use Rattle.slave_steps.proofs.respond.wide.Reads as wide-reads
+use Rattle.slave_respond.proofs.byte_at.Statement.{statement}
+use Rattle.slave_respond.proofs.byte_at.Tie as tie
+use Rattle.slave_respond.proofs.byte_at.Reads as reads
+use Rattle.slave_respond.proofs.byte_at.Lts as lts
+use Rattle.slave_respond.proofs.byte_of.Reads as byte-of-reads
+use Rattle.slave_respond.proofs.wide.Reads as wide-reads
 
 -- src/respond.rt:79:25
 enum-told : tie.Need-enum-told

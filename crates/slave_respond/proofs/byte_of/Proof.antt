@@ -2,11 +2,11 @@ use denote.Ref.{now}
 use mathlib.Core.Path.{sym}
 use lib.ListN.{List·getD-eq-default}
 use borrow.Author.Needs.{needs}
-use Rattle.slave_steps.proofs.respond.byte_of.Statement.{statement}
-use Rattle.slave_steps.proofs.respond.byte_of.Tie as tie
-use Rattle.slave_steps.proofs.respond.byte_of.Reads as reads
-use Rattle.slave_steps.proofs.respond.byte_of.Lts as lts
-use Rattle.slave_steps.proofs.respond.wide.Reads as wide-reads
+use Rattle.slave_respond.proofs.byte_of.Statement.{statement}
+use Rattle.slave_respond.proofs.byte_of.Tie as tie
+use Rattle.slave_respond.proofs.byte_of.Reads as reads
+use Rattle.slave_respond.proofs.byte_of.Lts as lts
+use Rattle.slave_respond.proofs.wide.Reads as wide-reads
 
 -- src/respond.rt:68:17
 shared-slice-read-b : tie.Need-shared-slice-read-b

@@ -1,9 +1,9 @@
 use borrow.Author.Tests.{le-ltb, lt-ltb}
 use borrow.Author.Needs.{needs}
-use Rattle.slave_steps.proofs.respond.chunk_end.Statement.{statement}
-use Rattle.slave_steps.proofs.respond.chunk_end.Tie as tie
-use Rattle.slave_steps.proofs.respond.chunk_end.Reads as reads
-use Rattle.slave_steps.proofs.respond.chunk_end.Lts as lts
+use Rattle.slave_respond.proofs.chunk_end.Statement.{statement}
+use Rattle.slave_respond.proofs.chunk_end.Tie as tie
+use Rattle.slave_respond.proofs.chunk_end.Reads as reads
+use Rattle.slave_respond.proofs.chunk_end.Lts as lts
 
 -- src/respond.rt:132:12
 sub-if2 : tie.Need-sub-if2

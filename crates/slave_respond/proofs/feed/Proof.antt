@@ -1,15 +1,15 @@
 use borrow.Author.Tests.{le-ltb, lt-ltb}
 use mathlib.Core.Path.{sym, _∙_}
 use borrow.Author.Needs.{needs}
-use Rattle.slave_steps.proofs.respond.feed.Statement.{statement}
-use Rattle.slave_steps.proofs.respond.feed.Tie as tie
-use Rattle.slave_steps.proofs.respond.feed.Reads as reads
-use Rattle.slave_steps.proofs.respond.feed.Lts as lts
+use Rattle.slave_respond.proofs.feed.Statement.{statement}
+use Rattle.slave_respond.proofs.feed.Tie as tie
+use Rattle.slave_respond.proofs.feed.Reads as reads
+use Rattle.slave_respond.proofs.feed.Lts as lts
 use Rattle.regs.proofs.fields.has_rx_done.Reads as has-rx-done-reads
-use Rattle.slave_steps.proofs.respond.chunk_end.Reads as chunk-end-reads
-use Rattle.slave_steps.proofs.respond.is_hungry.Reads as is-hungry-reads
-use Rattle.slave_steps.proofs.respond.more.Reads as more-reads
-use Rattle.slave_steps.proofs.respond.on.Reads as on-reads
+use Rattle.slave_respond.proofs.chunk_end.Reads as chunk-end-reads
+use Rattle.slave_respond.proofs.is_hungry.Reads as is-hungry-reads
+use Rattle.slave_respond.proofs.more.Reads as more-reads
+use Rattle.slave_respond.proofs.on.Reads as on-reads
 
 -- src/respond.rt:161:51
 chunk-end-requires : tie.Need-chunk-end-requires

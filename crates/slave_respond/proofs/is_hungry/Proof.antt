@@ -1,8 +1,8 @@
 use borrow.Author.Needs.{needs}
-use Rattle.slave_steps.proofs.respond.is_hungry.Statement.{statement}
-use Rattle.slave_steps.proofs.respond.is_hungry.Tie as tie
-use Rattle.slave_steps.proofs.respond.is_hungry.Reads as reads
-use Rattle.slave_steps.proofs.respond.is_hungry.Lts as lts
+use Rattle.slave_respond.proofs.is_hungry.Statement.{statement}
+use Rattle.slave_respond.proofs.is_hungry.Tie as tie
+use Rattle.slave_respond.proofs.is_hungry.Reads as reads
+use Rattle.slave_respond.proofs.is_hungry.Lts as lts
 use Rattle.regs.proofs.fields.has_rd_req.Reads as has-rd-req-reads
 use Rattle.regs.proofs.fields.has_tx_empty.Reads as has-tx-empty-reads
 

@@ -1,9 +1,9 @@
 use borrow.Author.Needs.{needs}
-use Rattle.slave_steps.proofs.respond.more.Statement.{statement}
-use Rattle.slave_steps.proofs.respond.more.Tie as tie
-use Rattle.slave_steps.proofs.respond.more.Reads as reads
-use Rattle.slave_steps.proofs.respond.more.Lts as lts
-use Rattle.slave_steps.proofs.respond.on.Reads as on-reads
+use Rattle.slave_respond.proofs.more.Statement.{statement}
+use Rattle.slave_respond.proofs.more.Tie as tie
+use Rattle.slave_respond.proofs.more.Reads as reads
+use Rattle.slave_respond.proofs.more.Lts as lts
+use Rattle.slave_respond.proofs.on.Reads as on-reads
 
 -- src/respond.rt:143:28
 enum-told : tie.Need-enum-told

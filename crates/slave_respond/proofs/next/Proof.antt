@@ -1,10 +1,10 @@
 use borrow.Author.Needs.{needs}
-use Rattle.slave_steps.proofs.respond.next.Statement.{statement}
-use Rattle.slave_steps.proofs.respond.next.Tie as tie
-use Rattle.slave_steps.proofs.respond.next.Reads as reads
-use Rattle.slave_steps.proofs.respond.next.Lts as lts
-use Rattle.slave_steps.proofs.respond.answer.Reads as answer-reads
-use Rattle.slave_steps.proofs.respond.byte_at.Reads as byte-at-reads
+use Rattle.slave_respond.proofs.next.Statement.{statement}
+use Rattle.slave_respond.proofs.next.Tie as tie
+use Rattle.slave_respond.proofs.next.Reads as reads
+use Rattle.slave_respond.proofs.next.Lts as lts
+use Rattle.slave_respond.proofs.answer.Reads as answer-reads
+use Rattle.slave_respond.proofs.byte_at.Reads as byte-at-reads
 
 -- src/respond.rt:104:41
 enum-told : tie.Need-enum-told

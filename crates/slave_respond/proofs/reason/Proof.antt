@@ -1,10 +1,10 @@
 use borrow.Author.Tests.{le-ltb, lt-ltb}
 use mathlib.Core.Path.{sym, _∙_}
 use borrow.Author.Needs.{needs}
-use Rattle.slave_steps.proofs.respond.reason.Statement.{statement}
-use Rattle.slave_steps.proofs.respond.reason.Tie as tie
-use Rattle.slave_steps.proofs.respond.reason.Reads as reads
-use Rattle.slave_steps.proofs.respond.reason.Lts as lts
+use Rattle.slave_respond.proofs.reason.Statement.{statement}
+use Rattle.slave_respond.proofs.reason.Tie as tie
+use Rattle.slave_respond.proofs.reason.Reads as reads
+use Rattle.slave_respond.proofs.reason.Lts as lts
 use Rattle.regs.proofs.fields.flush_count.Reads as flush-count-reads
 use Rattle.regs.proofs.fields.is_arbitration_loss.Reads as is-arbitration-loss-reads
 use Rattle.regs.proofs.fields.is_no_acknowledge.Reads as is-no-acknowledge-reads

@@ -7,7 +7,7 @@ use Rattle.slave_steps.proofs.advance_listen.Reads as advance-listen-re
 use Rattle.slave_steps.proofs.configure.Reads as configure-reads
 use Rattle.slave_steps.proofs.move_to.Reads as move-to-reads
 use Rattle.slave_steps.proofs.reset.advance.Reads as reset-advance-reads
-use Rattle.slave_steps.proofs.respond.advance.Reads as respond-advance-reads
+use Rattle.slave_respond.proofs.advance.Reads as respond-advance-reads
 
 -- src/lib.rt:214:24
 enum-known-point : tie.Need-enum-known-point

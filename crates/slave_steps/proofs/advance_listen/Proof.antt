@@ -3,7 +3,7 @@ use Rattle.slave_steps.proofs.advance_listen.Statement.{statement}
 use Rattle.slave_steps.proofs.advance_listen.Tie as tie
 use Rattle.slave_steps.proofs.advance_listen.Reads as reads
 use Rattle.slave_steps.proofs.advance_listen.Lts as lts
-use Rattle.slave_steps.proofs.listen.advance.Reads as advance-reads
+use Rattle.slave_listen.proofs.advance.Reads as advance-reads
 use Rattle.slave_steps.proofs.move_to.Reads as move-to-reads
 
 -- src/lib.rt:194:9

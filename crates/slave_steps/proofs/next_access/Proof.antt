@@ -3,9 +3,9 @@ use Rattle.slave_steps.proofs.next_access.Statement.{statement}
 use Rattle.slave_steps.proofs.next_access.Tie as tie
 use Rattle.slave_steps.proofs.next_access.Reads as reads
 use Rattle.slave_steps.proofs.next_access.Lts as lts
-use Rattle.slave_steps.proofs.listen.next.Reads as listen-next-reads
+use Rattle.slave_listen.proofs.next.Reads as listen-next-reads
 use Rattle.slave_steps.proofs.reset.next.Reads as reset-next-reads
-use Rattle.slave_steps.proofs.respond.next.Reads as respond-next-reads
+use Rattle.slave_respond.proofs.next.Reads as respond-next-reads
 
 -- src/lib.rt:156:24
 enum-known-point : tie.Need-enum-known-point

@@ -1,15 +1,15 @@
 use borrow.Author.Tests.{le-ltb, lt-ltb}
 use mathlib.Core.Path.{sym, _∙_}
 use borrow.Author.Needs.{needs}
-use Rattle.slave_steps.proofs.drain.after_data.Statement.{statement}
-use Rattle.slave_steps.proofs.drain.after_data.Tie as tie
-use Rattle.slave_steps.proofs.drain.after_data.Reads as reads
-use Rattle.slave_steps.proofs.drain.after_data.Lts as lts
+use Rattle.slave_listen.proofs.drain.after_data.Statement.{statement}
+use Rattle.slave_listen.proofs.drain.after_data.Tie as tie
+use Rattle.slave_listen.proofs.drain.after_data.Reads as reads
+use Rattle.slave_listen.proofs.drain.after_data.Lts as lts
 use Rattle.regs.proofs.fields.byte_of.Reads as byte-of-reads
-use Rattle.slave_steps.proofs.drain.drain_from.Reads as drain-from-reads
-use Rattle.slave_steps.proofs.drain.is_next.Reads as is-next-reads
-use Rattle.slave_steps.proofs.drain.wide.Reads as wide-reads
-use Rattle.slave_steps.proofs.listen.stay.Reads as stay-reads
+use Rattle.slave_listen.proofs.drain.drain_from.Reads as drain-from-reads
+use Rattle.slave_listen.proofs.drain.is_next.Reads as is-next-reads
+use Rattle.slave_listen.proofs.drain.wide.Reads as wide-reads
+use Rattle.slave_listen.proofs.stay.Reads as stay-reads
 
 -- src/drain.rt:70:8
 is-next-requires : tie.Need-is-next-requires

@@ -1,15 +1,15 @@
 use borrow.Author.Tests.{le-ltb, lt-ltb}
 use mathlib.Core.Path.{sym}
 use borrow.Author.Needs.{needs}
-use Rattle.slave_steps.proofs.drain.after_level.Statement.{statement}
-use Rattle.slave_steps.proofs.drain.after_level.Tie as tie
-use Rattle.slave_steps.proofs.drain.after_level.Reads as reads
-use Rattle.slave_steps.proofs.drain.after_level.Lts as lts
+use Rattle.slave_listen.proofs.drain.after_level.Statement.{statement}
+use Rattle.slave_listen.proofs.drain.after_level.Tie as tie
+use Rattle.slave_listen.proofs.drain.after_level.Reads as reads
+use Rattle.slave_listen.proofs.drain.after_level.Lts as lts
 use Rattle.regs.proofs.fields.level_of.Reads as level-of-reads
-use Rattle.slave_steps.proofs.drain.drain_from.Reads as drain-from-reads
-use Rattle.slave_steps.proofs.drain.wide.Reads as wide-reads
-use Rattle.slave_steps.proofs.listen.settle.Reads as settle-reads
-use Rattle.slave_steps.proofs.listen.stay.Reads as stay-reads
+use Rattle.slave_listen.proofs.drain.drain_from.Reads as drain-from-reads
+use Rattle.slave_listen.proofs.drain.wide.Reads as wide-reads
+use Rattle.slave_listen.proofs.settle.Reads as settle-reads
+use Rattle.slave_listen.proofs.stay.Reads as stay-reads
 
 -- src/drain.rt:33:33
 enum-told : tie.Need-enum-told

@@ -1,9 +1,9 @@
 use mathlib.Core.Path.{sym, _∙_}
 use borrow.Author.Needs.{needs}
-use Rattle.slave_steps.proofs.drain.after_status.Statement.{statement}
-use Rattle.slave_steps.proofs.drain.after_status.Tie as tie
-use Rattle.slave_steps.proofs.drain.after_status.Reads as reads
-use Rattle.slave_steps.proofs.drain.after_status.Lts as lts
+use Rattle.slave_listen.proofs.drain.after_status.Statement.{statement}
+use Rattle.slave_listen.proofs.drain.after_status.Tie as tie
+use Rattle.slave_listen.proofs.drain.after_status.Reads as reads
+use Rattle.slave_listen.proofs.drain.after_status.Lts as lts
 use Rattle.regs.proofs.fields.is_not_empty.Reads as is-not-empty-reads
 
 -- src/drain.rt:53:8

@@ -1,8 +1,8 @@
 use borrow.Author.Tests.{le-ltb, lt-ltb}
-use Rattle.slave_steps.proofs.drain.drain_from.Statement.{statement}
-use Rattle.slave_steps.proofs.drain.drain_from.Tie as tie
-use Rattle.slave_steps.proofs.drain.drain_from.Reads as reads
-use Rattle.slave_steps.proofs.drain.drain_from.Lts as lts
+use Rattle.slave_listen.proofs.drain.drain_from.Statement.{statement}
+use Rattle.slave_listen.proofs.drain.drain_from.Tie as tie
+use Rattle.slave_listen.proofs.drain.drain_from.Reads as reads
+use Rattle.slave_listen.proofs.drain.drain_from.Lts as lts
 
 -- src/drain.rt:12:1
 returns : tie.Need-returns

@@ -1,8 +1,8 @@
 use borrow.Author.Needs.{needs}
-use Rattle.slave_steps.proofs.drain.is_next.Statement.{statement}
-use Rattle.slave_steps.proofs.drain.is_next.Tie as tie
-use Rattle.slave_steps.proofs.drain.is_next.Reads as reads
-use Rattle.slave_steps.proofs.drain.is_next.Lts as lts
+use Rattle.slave_listen.proofs.drain.is_next.Statement.{statement}
+use Rattle.slave_listen.proofs.drain.is_next.Tie as tie
+use Rattle.slave_listen.proofs.drain.is_next.Reads as reads
+use Rattle.slave_listen.proofs.drain.is_next.Lts as lts
 use Rattle.regs.proofs.fields.is_first_data_byte.Reads as is-first-data-byte-reads
 
 -- src/drain.rt:64:21

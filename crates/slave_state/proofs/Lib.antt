@@ -1,0 +1,3 @@
+-- What holds of the definitions.
+pub mod Small
+pub mod Corners

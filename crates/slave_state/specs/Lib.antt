@@ -1,0 +1,2 @@
+-- The slave driver as src/i2c_slave.rs has it.
+pub mod I2cSlave
