@@ -1,8 +1,8 @@
 // The slave driver: the machine of `slave_steps` run over a list of readings, and its calls, by value and with the state lent.
 use regs::access::Performed;
 use regs::access::Ran;
+use slave_state::SlaveState;
 use slave_steps::Slave;
-use slave_steps::SlaveState;
 ghost use mathlib.Core.Path.{_≡_};
 ghost use mathlib.Core.List.{[]};
 ghost use Prim.Native.Nat.{_/_};
@@ -10,7 +10,7 @@ ghost use lib.ListN.{length};
 ghost use Rattle.regs.specs.Machine.{final, ran};
 ghost use Rattle.regs.specs.Log.{LeavesState, LeavesAll, expected};
 ghost use Rattle.slave_steps.specs.Machine.{machine};
-ghost use Rattle.slave_steps.specs.I2cSlave.{reset-call, listen-call, respond-to-read-call, respond-till-stop-call, respond-and-fill-call};
+ghost use Rattle.slave_state.specs.I2cSlave.{reset-call, listen-call, respond-to-read-call, respond-till-stop-call, respond-and-fill-call};
 
 // What a call by value leaves beside the log and the buffer.
 pub struct Left {

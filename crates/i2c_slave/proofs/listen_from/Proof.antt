@@ -1,0 +1,42 @@
+use borrow.Author.Needs.{needs}
+use Rattle.i2c_slave.proofs.listen_from.Statement.{statement}
+use Rattle.i2c_slave.proofs.listen_from.Tie as tie
+use Rattle.i2c_slave.proofs.listen_from.Reads as reads
+use Rattle.i2c_slave.proofs.listen_from.Lts as lts
+use Rattle.i2c_slave.proofs.run.Reads as run-reads
+use Rattle.slave_steps.proofs.start_listen.Reads as start-listen-reads
+
+-- src/lib.rt:74:9
+start-listen-requires : tie.Need-start-listen-requires
+start-listen-requires c κs = search needs
+
+-- src/lib.rt:75:12
+slice-aggregate-run : tie.Need-slice-aggregate-run
+slice-aggregate-run c = search needs
+
+-- src/lib.rt:75:5
+run-requires : tie.Need-run-requires
+run-requires c κs = search needs
+
+-- src/lib.rt:71:1
+same-length : tie.Need-same-length
+same-length c = search needs
+
+-- src/lib.rt:71:1
+same-length-2 : tie.Need-same-length-2
+same-length-2 c = search needs
+
+-- src/lib.rt:71:1
+returns : tie.Need-returns
+returns c = ?
+
+pub listen-from-spec : {M : Type 1} → statement M
+listen-from-spec =
+    tie.close
+    (tie.spec
+    start-listen-requires
+    slice-aggregate-run
+    run-requires
+    same-length
+    same-length-2
+    returns)

@@ -1,0 +1,42 @@
+use borrow.Author.Needs.{needs}
+use Rattle.i2c_slave.proofs.reset_from.Statement.{statement}
+use Rattle.i2c_slave.proofs.reset_from.Tie as tie
+use Rattle.i2c_slave.proofs.reset_from.Reads as reads
+use Rattle.i2c_slave.proofs.reset_from.Lts as lts
+use Rattle.i2c_slave.proofs.run.Reads as run-reads
+use Rattle.slave_steps.proofs.start_reset.Reads as start-reset-reads
+
+-- src/lib.rt:65:9
+start-reset-requires : tie.Need-start-reset-requires
+start-reset-requires c κs = search needs
+
+-- src/lib.rt:67:12
+slice-aggregate-run : tie.Need-slice-aggregate-run
+slice-aggregate-run c = search needs
+
+-- src/lib.rt:67:32
+slice-aggregate-run-2 : tie.Need-slice-aggregate-run-2
+slice-aggregate-run-2 c = search needs
+
+-- src/lib.rt:67:5
+run-requires : tie.Need-run-requires
+run-requires c κs = search needs
+
+-- src/lib.rt:56:1
+same-length : tie.Need-same-length
+same-length c = search needs
+
+-- src/lib.rt:56:1
+returns : tie.Need-returns
+returns c = ?
+
+pub reset-from-spec : {M : Type 1} → statement M
+reset-from-spec =
+    tie.close
+    (tie.spec
+    start-reset-requires
+    slice-aggregate-run
+    slice-aggregate-run-2
+    run-requires
+    same-length
+    returns)

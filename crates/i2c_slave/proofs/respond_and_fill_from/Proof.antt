@@ -1,0 +1,32 @@
+use borrow.Author.Needs.{needs}
+use Rattle.i2c_slave.proofs.respond_and_fill_from.Statement.{statement}
+use Rattle.i2c_slave.proofs.respond_and_fill_from.Tie as tie
+use Rattle.i2c_slave.proofs.respond_and_fill_from.Reads as reads
+use Rattle.i2c_slave.proofs.respond_and_fill_from.Lts as lts
+use Rattle.i2c_slave.proofs.run.Reads as run-reads
+use Rattle.slave_steps.proofs.start_respond_and_fill.Reads as start-respond-and-fill-reads
+
+-- src/lib.rt:116:9
+start-respond-and-fill-requires : tie.Need-start-respond-and-fill-requires
+start-respond-and-fill-requires c κs = search needs
+
+-- src/lib.rt:118:34
+slice-aggregate-run : tie.Need-slice-aggregate-run
+slice-aggregate-run c = search needs
+
+-- src/lib.rt:118:5
+run-requires : tie.Need-run-requires
+run-requires c κs = search needs
+
+-- src/lib.rt:107:1
+same-length : tie.Need-same-length
+same-length c = search needs
+
+-- src/lib.rt:107:1
+returns : tie.Need-returns
+returns c = ?
+
+pub respond-and-fill-from-spec : {M : Type 1} → statement M
+respond-and-fill-from-spec =
+    tie.close
+    (tie.spec start-respond-and-fill-requires slice-aggregate-run run-requires same-length returns)

@@ -1,0 +1,32 @@
+use borrow.Author.Needs.{needs}
+use Rattle.i2c_slave.proofs.respond_to_read_from.Statement.{statement}
+use Rattle.i2c_slave.proofs.respond_to_read_from.Tie as tie
+use Rattle.i2c_slave.proofs.respond_to_read_from.Reads as reads
+use Rattle.i2c_slave.proofs.respond_to_read_from.Lts as lts
+use Rattle.i2c_slave.proofs.run.Reads as run-reads
+use Rattle.slave_steps.proofs.start_respond_to_read.Reads as start-respond-to-read-reads
+
+-- src/lib.rt:87:9
+start-respond-to-read-requires : tie.Need-start-respond-to-read-requires
+start-respond-to-read-requires c κs = search needs
+
+-- src/lib.rt:89:34
+slice-aggregate-run : tie.Need-slice-aggregate-run
+slice-aggregate-run c = search needs
+
+-- src/lib.rt:89:5
+run-requires : tie.Need-run-requires
+run-requires c κs = search needs
+
+-- src/lib.rt:79:1
+same-length : tie.Need-same-length
+same-length c = search needs
+
+-- src/lib.rt:79:1
+returns : tie.Need-returns
+returns c = ?
+
+pub respond-to-read-from-spec : {M : Type 1} → statement M
+respond-to-read-from-spec =
+    tie.close
+    (tie.spec start-respond-to-read-requires slice-aggregate-run run-requires same-length returns)
