@@ -1,7 +1,7 @@
 -- How often a loop may turn does not show in an outcome, once that is more than the log has room for: `enough`.
 use Prim.Native.Nat.{ℕ, zero, suc, _<_, _≤_}
 use mathlib.Core.List.{List, [], _∷_}
-use mathlib.Core.Path.{_≡_, refl, sym, ap, _∙_}
+use mathlib.Core.Path.{_≡_, sym, ap, _∙_}
 use lib.ListN.{set}
 use native.Mathlib.Nat.{le-refl}
 use Rattle.regs.specs.Program.{Behaviour, ends, reads, writes, marks, stores, asks, keeps, cut, Program, Outcome, outcome, just, logged}

@@ -2,7 +2,7 @@
 use Prim.Native.Nat.{ℕ, _+_, _/_, _-_, _<_, _≤_, _^_}
 use native.Mathlib.Omega.{arith}
 use mathlib.Core.List.{List}
-use mathlib.Core.Path.{_≡_, sym, ap, _∙_}
+use mathlib.Core.Path.{_≡_, refl, sym, ap, _∙_}
 use lib.ListN.{length, length-set}
 use Rattle.regs.specs.Machine.{Machine, performed, log-after, stored-in, final, ran}
 use Rattle.regs.specs.declared.answers.Reply.{Reply}
@@ -20,6 +20,12 @@ pub record Going (M : Machine) (readings log₀ buffer₀ : List ℕ) (from : M 
   pub long : length log ≡ length log₀
   pub wide : length buffer ≡ length buffer₀
   pub fits : length log₀ < 2 ^ 64
+
+-- at the loop's start
+pub begun : (M : Machine) (readings log buffer : List ℕ) (from : M .S) → length log < 2 ^ 64 → Going M readings log buffer from log buffer from 0 0
+begun M readings log buffer from h =
+    let e : length log / 2 - 0 ≡ length log / 2 = omega arith in
+    record { same = rw e; room = omega arith; long = refl; wide = refl; fits = h }
 
 module _ {M : Machine} {readings log₀ buffer₀ : List ℕ} {from : M .S} {log buffer : List ℕ} {p : M .S} {entries used : ℕ}
     (g : Going M readings log₀ buffer₀ from log buffer p entries used) {n : Next} (en : n ≡ M .next p) {d : Performed} {log′ : List ℕ}

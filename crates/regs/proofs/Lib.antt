@@ -7,3 +7,6 @@ pub mod Lift
 pub mod Going
 pub mod Enough
 pub mod Spent
+pub mod Legal
+pub mod LegalExample
+pub mod RoundTrip

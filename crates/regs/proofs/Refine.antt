@@ -22,7 +22,6 @@ use Rattle.regs.specs.declared.answers.Reply.the-variants.{Answered, Log
 use Rattle.regs.specs.declared.access.Ran.{Ran}
 use Rattle.regs.specs.declared.access.Entry.{Entry}
 use Rattle.regs.specs.declared.access.Entry.the-variants as E
-use Rattle.regs.specs.declared.access.Next.{Next}
 use Rattle.regs.specs.declared.access.Next.the-variants.{Read, Write, Mark, Finished}
 use Rattle.regs.specs.declared.access.Store.{Store}
 use Rattle.regs.specs.declared.access.Store.the-variants.{Nothing, Byte}
@@ -209,7 +208,7 @@ outcome-fits (asks f) room rs b z = outcome-fits (f z) room rs b z
 outcome-fits (keeps z′ t) room rs b z = outcome-fits t room rs b z′
 outcome-fits cut room rs b z = zero-le
 
-length-encode : (es : List Entry) → length (encode es) ≡ length es * 2
+pub length-encode : (es : List Entry) → length (encode es) ≡ length es * 2
 length-encode [] = refl
 length-encode (E.Read r v ∷ es) = let ih : length (encode es) ≡ length es * 2 = length-encode es in omega arith
 length-encode (E.Write r v ∷ es) = let ih : length (encode es) ≡ length es * 2 = length-encode es in omega arith

@@ -8,7 +8,6 @@ use Rattle.regs.specs.Program.{Behaviour, ends, reads, writes, marks, st
 use Rattle.regs.specs.Log.{reads-in}
 use Rattle.regs.specs.Machine.{Machine, stored-in}
 use Rattle.regs.specs.declared.answers.Answer.{Answer}
-use Rattle.regs.specs.declared.answers.Reply.{Reply}
 use Rattle.regs.specs.declared.answers.Reply.the-variants.{Answered, LogFull, OutOfReadings}
 use Rattle.regs.proofs.Refine.{Steps}
 

@@ -1,10 +1,8 @@
 -- One turn of a machine's run.
 use Prim.Native.Nat.{ℕ, zero, suc, _+_, _-_, _<_}
 use native.Mathlib.Omega.{arith}
-use mathlib.Core.Bool.{Bool, true, false}
 use mathlib.Core.List.{List}
-use mathlib.Core.Path.{_≡_, refl}
-use lib.Dec.{ltb}
+use mathlib.Core.Path.{_≡_}
 use borrow.Author.Tests.{lt-ltb, le-ltb}
 use Rattle.regs.specs.Machine.{Machine, taken, performed, at-full, head-of, value-of, entered, stored-in, final, ran}
 use Rattle.regs.specs.declared.answers.Reply.{Reply}

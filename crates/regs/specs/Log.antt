@@ -1,13 +1,13 @@
 -- How entries stand in the log, and what a call is to leave.
-use Prim.Native.Nat.{ℕ, zero, suc, _+_, _*_, _/_, _%_}
+use Prim.Native.Nat.{ℕ, suc, _+_, _*_, _/_, _%_}
 use mathlib.Core.List.{List, [], _∷_, _++_}
-use mathlib.Core.Bool.{Bool}
+use mathlib.Core.Bool.{Bool, _||_}
 use mathlib.Core.Path.{_≡_}
 use lib.Dec.{eqb, T}
 use lib.ListN.{length, drop}
 use Rattle.regs.specs.declared.access.Entry.{Entry}
 use Rattle.regs.specs.declared.access.Entry.the-variants.{Read, Write, Marked}
-use Rattle.regs.specs.Program.{if_then_else_, Outcome, outcome, Program, behaviour}
+use Rattle.regs.specs.Program.{if_then_else_, PENDING, BLOCK-RESET, Outcome, outcome, Program, behaviour}
 use Rattle.regs.specs.Registers.{legal-read, legal-write}
 use Rattle.regs.specs.declared.answers.Answer.{Answer}
 use Rattle.regs.specs.declared.answers.Reply.{Reply}
@@ -38,11 +38,15 @@ reads-in (Read r v ∷ es) = suc (reads-in es)
 reads-in (Write r v ∷ es) = reads-in es
 reads-in (Marked x ∷ es) = reads-in es
 
--- an access that the table of registers allows
+-- one of the two marks
+abbrev pub legal-mark : ℕ → Bool
+legal-mark x = eqb x PENDING || eqb x BLOCK-RESET
+
+-- an access that the table of registers allows, or one of the marks
 abbrev pub Legal : Entry → Type 0
 Legal (Read r v) = T (legal-read r)
 Legal (Write r v) = T (legal-write r)
-Legal (Marked x) = Unit {0}
+Legal (Marked x) = T (legal-mark x)
 
 abbrev pub Each : {A : Type 0} → (A → Type 0) → List A → Type 0
 Each P [] = Unit {0}

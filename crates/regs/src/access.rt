@@ -4,6 +4,7 @@ use super::answers::Reply;
 use super::fields::byte_of;
 ghost use mathlib.Core.Path.{_≡_};
 ghost use Prim.Native.Nat.{_/_, _<_};
+ghost use lib.Dec.{ltb};
 ghost use lib.ListN.{length};
 ghost use Rattle.regs.specs.Log.{entry};
 ghost use Rattle.regs.specs.Machine.{head-of, value-of, taken, at-full, performed, log-after, stored-in};
@@ -70,10 +71,24 @@ fn value(n: Next, v: u32) -> u32
     }
 }
 
+// Whether a reading is left, of so many.
+fn has_reading(count: usize, used: usize) -> bool
+    ensures { λ r. ⌜ r ≡ ltb used count ⌝ }
+{
+    used < count
+}
+
+// Whether a log of so many words has room for one more entry.
+fn has_room(words: usize, entries: usize) -> bool
+    ensures { λ r. ⌜ r ≡ ltb entries (words / 2) ⌝ }
+{
+    entries < words / 2
+}
+
 fn take_reading(readings: &[u32], used: usize) -> Performed
     ensures { λ r. ⌜ r ≡ taken (now (readings .entry)) used (Next.Read 0) ⌝ }
 {
-    if used < readings.len() {
+    if has_reading(readings.len(), used) {
         let v = readings[used];
         Performed::Did(v, used + 1)
     } else {
@@ -123,7 +138,7 @@ fn enter(log: &mut [u32], k: usize, n: Next, p: Performed)
 pub fn perform(n: Next, readings: &[u32], used: usize, log: &mut [u32], entries: usize) -> Performed
     ensures { λ r. ⌜ (r ≡ performed (now (readings .entry)) used entries (length (now (log .entry)) / 2) n) × (now (log .exit) ≡ log-after r (now (log .entry)) entries n) ⌝ }
 {
-    if entries < log.len() / 2 {
+    if has_room(log.len(), entries) {
         let p = take(n, readings, used);
         enter(log, entries, n, p);
         p

@@ -1,4 +1,8 @@
 // The register library beneath master and slave: the controller's 25 registers, the fields of their words, and the access log.
+ghost use mathlib.Core.Path.{_≡_};
+ghost use lib.ListN.{getD};
+ghost use Rattle.regs.specs.Registers.{offsets};
+
 pub mod answers; // what a call answers, with document 01's numbers
 pub mod fields; // the words' fields, by shifts and masks
 pub mod access; // one access: performed, logged and read back
@@ -31,6 +35,13 @@ pub const OFFSETS: [u8; 25] = [
     0xA0,
     0xA8,
 ];
+
+// The offset in a row of the table, 255 where there is no such row.
+pub fn offset(row: usize) -> u8
+    ensures { λ r. ⌜ r ≡ getD offsets row 255 ⌝ }
+{
+    if row < 25 { OFFSETS[row] } else { 255 }
+}
 
 pub const CON: u8 = OFFSETS[0];
 

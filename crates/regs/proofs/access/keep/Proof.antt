@@ -1,7 +1,7 @@
 -- `regs::access::keep` meets its contract.
 use mathlib.Core.Path.{sym}
 use lib.Seq.{set-out}
-use borrow.Author.Tests.{le-ltb, lt-ltb}
+use borrow.Author.Tests.{lt-ltb}
 use borrow.Author.Needs.{needs}
 use Rattle.regs.proofs.access.keep.Statement.{statement}
 use Rattle.regs.proofs.access.keep.Tie as tie

@@ -1,23 +1,30 @@
 -- `regs::access::take_reading` meets its contract.
-use borrow.Author.Tests.{le-ltb, lt-ltb}
+use lib.ListN.{length}
+use borrow.Author.Tests.{ltb-true}
+use mathlib.Core.Path.{sym, _∙_}
+use native.Mathlib.Omega.{arith}
 use borrow.Author.Needs.{needs}
 use Rattle.regs.proofs.access.take_reading.Statement.{statement}
 use Rattle.regs.proofs.access.take_reading.Tie as tie
 
+has-reading-requires : tie.Need-has-reading-requires
+has-reading-requires c κs = search needs
+
 mul-v : tie.Need-mul-v
-mul-v c = search needs
+mul-v c = omega (arith, ltb-true (c .before .before .before .args .used) (length (c .before .before .before .args .readings .now)) (sym (c .before .has-reading .ensures) ∙ c .if1 .taken))
 
 shared-slice-read-v : tie.Need-shared-slice-read-v
-shared-slice-read-v c = search needs
+shared-slice-read-v c = omega (arith, ltb-true (c .before .before .before .before .args .used) (length (c .before .before .before .before .args .readings .now)) (sym (c .before .before .has-reading .ensures) ∙ c .before .if1 .taken))
 
 add-t7 : tie.Need-add-t7
-add-t7 c = search needs
+add-t7 c = omega (arith, ltb-true (c .before .before .before .before .args .used) (length (c .before .before .before .before .args .readings .now)) (sym (c .before .before .has-reading .ensures) ∙ c .before .if1 .taken))
 
 returns : tie.Need-returns
-returns c = simp (lt-ltb _ _ (c .before .if1 .taken))
+returns c = simp (sym (c .before .before .has-reading .ensures) ∙ c .before .if1 .taken)
 
 returns-2 : tie.Need-returns-2
-returns-2 c = simp (le-ltb _ _ (c .if1 .left))
+returns-2 c = simp (sym (c .before .has-reading .ensures) ∙ c .if1 .left)
 
 pub take-reading-spec : {M : Type 1} → statement M
-take-reading-spec = tie.close (tie.spec mul-v shared-slice-read-v add-t7 returns returns-2)
+take-reading-spec =
+    tie.close (tie.spec has-reading-requires mul-v shared-slice-read-v add-t7 returns returns-2)
