@@ -66,20 +66,25 @@ abbrev pub slave : SlaveState → ℕ → Point → Slave
 slave me length point = record { state = me; length = length; point = point }
 
 abbrev pub start-reset : SlaveState → ℕ → Bool → Slave
-start-reset me address g = if eqb address 0 then slave me 0 (Q.Refused F.SlaveAddressZero) else slave me 0 (Q.BlockReset address g)
+start-reset me address g = slave me 0 (if eqb address 0 then Q.Refused F.SlaveAddressZero else Q.BlockReset address g)
+
+-- a length that is kept: beyond the limits nothing is done with it
+abbrev pub held : ℕ → ℕ
+held length = if ltb 4096 length then 0 else length
+
+abbrev pub within-limits : ℕ → Point → Point
+within-limits length point = if ltb 4096 length then Q.Refused F.OverLimits else point
 
 abbrev pub listen-point : Pending → ℕ → Point
 listen-point None length = Q.Listening L.RxTl
 listen-point (Byte b) length = if eqb length 0 then Q.Refused F.NoPlaceForPending else Q.Listening L.RxTl
 
 abbrev pub start-listen : SlaveState → ℕ → Slave
-start-listen me length = if ltb 4096 length then slave me 0 (Q.Refused F.OverLimits) else slave me length (listen-point (me .«pending_byte») length)
+start-listen me length = slave me (held length) (within-limits length (listen-point (me .«pending_byte») length))
 
 abbrev pub start-respond : SlaveState → Job → ℕ → Slave
 start-respond me job length =
-    if ltb 4096 length then slave me 0 (Q.Refused F.OverLimits)
-    else (if eqb length 0 then slave me 0 (Q.Refused F.InvalidResponseBufferLength)
-    else slave me length (Q.Responding (response job (P.RawIntrStat 0))))
+    slave me (held length) (within-limits length (if eqb length 0 then Q.Refused F.InvalidResponseBufferLength else Q.Responding (response job (P.RawIntrStat 0))))
 
 abbrev pub start-fill : SlaveState → ℕ → Slave
 start-fill me fill = slave me 0 (Q.Responding (response (Fill fill) (P.RawIntrStat 0)))

@@ -89,13 +89,14 @@ fn start_respond(state: SlaveState, job: Job, length: usize) -> Slave
     if 4096 < length {
         return at(state, 0, Point::Refused(Refusal::OverLimits));
     }
+    let n = length as u16;
     if length == 0 {
-        return at(state, 0, Point::Refused(Refusal::InvalidResponseBufferLength));
+        return at(state, n, Point::Refused(Refusal::InvalidResponseBufferLength));
     }
     let point = RespondPoint::RawIntrStat(0);
     at(
         state,
-        length as u16,
+        n,
         Point::Responding(Response {
             job,
             point,

@@ -1,3 +1,10 @@
+use lib.ListN.{length}
+use Rattle.regs.proofs.Refine.{leaves-all}
+use Rattle.slave_steps.proofs.Agrees.{listen-agrees}
+use Rattle.slave_steps.specs.Machine.{machine, start-listen}
+use Rattle.slave_state.specs.I2cSlave.{listen-call}
+use mathlib.Core.List.{[]}
+use denote.Ref.{now}
 use borrow.Author.Needs.{needs}
 use Rattle.i2c_slave.proofs.listen_from.Statement.{statement}
 use Rattle.i2c_slave.proofs.listen_from.Tie as tie
@@ -28,7 +35,12 @@ same-length-2 c = search needs
 
 -- src/lib.rt:71:1
 returns : tie.Need-returns
-returns c = ?
+returns c =
+    let d = c .before .before .before .before in
+    let p = c .before .before .before .before .before .before .before .before in
+    let s = c .before .before .before .before .before .before .before .before .before .before .before .before in
+    leaves-all (machine []) (start-listen (s .args .state) (length (now (s .args .buffer)))) (listen-call (length (now (s .args .buffer)))) (now (s .args .readings)) (now (s .args .log)) _ (now (s .args .buffer)) _ (d .run .result .state) (d .run .result .ran)
+    (listen-agrees [] (length (now (s .args .buffer))) (s .args .state) (now (s .args .buffer))) (rw (p .start-listen .ensures) at (d .run .ensures))
 
 pub listen-from-spec : {M : Type 1} → statement M
 listen-from-spec =

@@ -1,3 +1,9 @@
+use Rattle.regs.proofs.Refine.{leaves-state}
+use Rattle.slave_steps.proofs.Resets.{reset-agrees}
+use Rattle.slave_steps.specs.Machine.{machine, start-reset}
+use Rattle.slave_state.specs.I2cSlave.{reset-call}
+use mathlib.Core.List.{[]}
+use denote.Ref.{now}
 use borrow.Author.Needs.{needs}
 use Rattle.i2c_slave.proofs.reset_from.Statement.{statement}
 use Rattle.i2c_slave.proofs.reset_from.Tie as tie
@@ -28,7 +34,12 @@ same-length c = search needs
 
 -- src/lib.rt:56:1
 returns : tie.Need-returns
-returns c = ?
+returns c =
+    let d = c .before .before .before in
+    let p = c .before .before .before .before .before .before .before in
+    let s = c .before .before .before .before .before .before .before .before .before .before in
+    leaves-state (machine []) (start-reset (s .args .state) (s .args .address) (s .args .general-call)) (reset-call (s .args .address) (s .args .general-call)) (now (s .args .readings)) (now (s .args .log)) _ [] _ (d .run .result .state) (d .run .result .ran)
+    (reset-agrees [] (s .args .address) (s .args .general-call) (s .args .state) []) (rw (p .start-reset .ensures) at (d .run .ensures))
 
 pub reset-from-spec : {M : Type 1} → statement M
 reset-from-spec =

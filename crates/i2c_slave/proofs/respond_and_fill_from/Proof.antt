@@ -1,3 +1,11 @@
+use lib.ListN.{length}
+use Rattle.slave_respond.specs.declared.Job.the-variants.{RespondThenFill}
+use Rattle.regs.proofs.Refine.{leaves-state}
+use Rattle.slave_steps.proofs.Agrees.{respond-and-fill-agrees}
+use Rattle.slave_steps.specs.Machine.{machine, start-respond}
+use Rattle.slave_state.specs.I2cSlave.{respond-and-fill-call}
+use mathlib.Core.List.{[]}
+use denote.Ref.{now}
 use borrow.Author.Needs.{needs}
 use Rattle.i2c_slave.proofs.respond_and_fill_from.Statement.{statement}
 use Rattle.i2c_slave.proofs.respond_and_fill_from.Tie as tie
@@ -24,7 +32,12 @@ same-length c = search needs
 
 -- src/lib.rt:107:1
 returns : tie.Need-returns
-returns c = ?
+returns c =
+    let d = c .before .before .before in
+    let p = c .before .before .before .before .before .before in
+    let s = c .before .before .before .before .before .before .before .before .before .before in
+    leaves-state (machine (now (s .args .bytes))) (start-respond (s .args .state) (RespondThenFill (s .args .fill)) (length (now (s .args .bytes)))) (respond-and-fill-call (now (s .args .bytes)) (s .args .fill)) (now (s .args .readings)) (now (s .args .log)) _ [] _ (d .run .result .state) (d .run .result .ran)
+    (respond-and-fill-agrees (now (s .args .bytes)) (s .args .fill) (s .args .state) []) (rw (p .start-respond-and-fill .ensures) at (d .run .ensures))
 
 pub respond-and-fill-from-spec : {M : Type 1} → statement M
 respond-and-fill-from-spec =

@@ -1,3 +1,9 @@
+use Rattle.regs.proofs.Refine.{leaves-state}
+use Rattle.slave_steps.proofs.Agrees.{respond-till-stop-agrees}
+use Rattle.slave_steps.specs.Machine.{machine, start-fill}
+use Rattle.slave_state.specs.I2cSlave.{respond-till-stop-call}
+use mathlib.Core.List.{[]}
+use denote.Ref.{now}
 use borrow.Author.Needs.{needs}
 use Rattle.i2c_slave.proofs.respond_till_stop_from.Statement.{statement}
 use Rattle.i2c_slave.proofs.respond_till_stop_from.Tie as tie
@@ -28,7 +34,12 @@ same-length c = search needs
 
 -- src/lib.rt:93:1
 returns : tie.Need-returns
-returns c = ?
+returns c =
+    let d = c .before .before .before in
+    let p = c .before .before .before .before .before .before .before in
+    let s = c .before .before .before .before .before .before .before .before .before .before in
+    leaves-state (machine []) (start-fill (s .args .state) (s .args .fill)) (respond-till-stop-call (s .args .fill)) (now (s .args .readings)) (now (s .args .log)) _ [] _ (d .run .result .state) (d .run .result .ran)
+    (respond-till-stop-agrees [] (s .args .fill) (s .args .state) []) (rw (p .start-respond-till-stop .ensures) at (d .run .ensures))
 
 pub respond-till-stop-from-spec : {M : Type 1} → statement M
 respond-till-stop-from-spec =

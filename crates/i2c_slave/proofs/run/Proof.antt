@@ -1,6 +1,6 @@
 use Rattle.slave_steps.specs.declared.Moved.{Moved}
 use Rattle.slave_steps.specs.Machine.{machine}
-use Rattle.regs.proofs.Going.{Going, stopped, more, turned}
+use Rattle.regs.proofs.Going.{Going, begun, stopped, more, turned}
 use lib.ListN.{length}
 use mathlib.Core.Path.{ap}
 use Prim.Native.Nat.{_/_, _-_}
@@ -23,7 +23,7 @@ abbrev μ-loop : tie.MeasureT-loop
 
 -- src/lib.rt:28:5
 loop-holds : tie.Need-loop-holds Inv-loop μ-loop
-loop-holds c = search needs
+loop-holds c = begun (machine _) _ _ _ _ (search needs)
 
 -- src/lib.rt:29:13
 next-access-requires : tie.Need-next-access-requires Inv-loop μ-loop
