@@ -49,16 +49,16 @@ use Rattle.slave_state.specs.I2cSlave.{respond-to-read-call}
 use Rattle.slave_state.specs.declared.SlaveState.{SlaveState}
 use Rattle.slave_state.proofs.SlaveState as ST
 use Rattle.slave_state.proofs.SlaveState.Laws as SL
-use Rattle.i2c_slave.specs.declared.Left.{Left}
-use Rattle.i2c_slave.proofs.Left as NT
-use Rattle.i2c_slave.proofs.Left.Laws as NL
+use Rattle.slave_run.specs.declared.Left.{Left}
+use Rattle.slave_run.proofs.Left as NT
+use Rattle.slave_run.proofs.Left.Laws as NL
 use Rattle.regs.specs.declared.access.Ran.{Ran}
 use Rattle.regs.proofs.access.Ran as RanT
 use Rattle.regs.proofs.access.Ran.Laws as RanL
-use Rattle.i2c_slave.proofs.respond_to_read_from as callee
-use Rattle.i2c_slave.proofs.respond_to_read_from.Symbol as callee-def
-use Rattle.i2c_slave.proofs.respond_to_read_from.Symbol.{name as #callee}
-use Rattle.i2c_slave.proofs.respond_to_read_from.Met as callee-thm
+use Rattle.slave_run.proofs.respond_to_read_from as callee
+use Rattle.slave_run.proofs.respond_to_read_from.Symbol as callee-def
+use Rattle.slave_run.proofs.respond_to_read_from.Symbol.{name as #callee}
+use Rattle.slave_run.proofs.respond_to_read_from.Met as callee-thm
 use Rattle.i2c_slave.proofs.respond_to_read.Key.{name as #me}
 use Rattle.i2c_slave.proofs.respond_to_read as me
 use Rattle.i2c_slave.proofs.respond_to_read.Statement as stated
@@ -159,4 +159,4 @@ respond-to-read-spec 𝓤 H 𝓜 𝓖 𝓡 =
     entered 𝓤 H (tripleOf 𝓤 H (𝓖 .A) me.signature (me.spec 𝓤 H (𝓖 .A) (𝓜 .mem) (𝓡 .run)))
     (tables 𝓤 H 𝓜 𝓡 code.env .C) (tables 𝓤 H 𝓜 𝓡 code.env .Λ) #me code.function (code.unfolded 𝓤 H 𝓜 𝓡)
     (me-meets 𝓤 H (𝓖 .A) (givenOf 𝓤 H 𝓜 𝓖) (𝓜 .mem) (𝓡 .run) (tablesOf 𝓤 H 𝓜 (tables 𝓤 H 𝓜 𝓡 code.env))
-    (cited 𝓤 H (Callee 𝓤 H (𝓖 .A) (𝓜 .mem) (𝓡 .run)) 𝓜 𝓡 code.env #callee callee-def.routine code.calls-i2c-slave·respond-to-read-from (callee-thm.met 𝓤 H 𝓜 𝓖 𝓡)))
+    (cited 𝓤 H (Callee 𝓤 H (𝓖 .A) (𝓜 .mem) (𝓡 .run)) 𝓜 𝓡 code.env #callee callee-def.routine code.calls-slave-run·respond-to-read-from (callee-thm.met 𝓤 H 𝓜 𝓖 𝓡)))

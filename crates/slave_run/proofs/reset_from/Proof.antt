@@ -5,11 +5,11 @@ use Rattle.slave_state.specs.I2cSlave.{reset-call}
 use mathlib.Core.List.{[]}
 use denote.Ref.{now}
 use borrow.Author.Needs.{needs}
-use Rattle.i2c_slave.proofs.reset_from.Statement.{statement}
-use Rattle.i2c_slave.proofs.reset_from.Tie as tie
-use Rattle.i2c_slave.proofs.reset_from.Reads as reads
-use Rattle.i2c_slave.proofs.reset_from.Lts as lts
-use Rattle.i2c_slave.proofs.run.Reads as run-reads
+use Rattle.slave_run.proofs.reset_from.Statement.{statement}
+use Rattle.slave_run.proofs.reset_from.Tie as tie
+use Rattle.slave_run.proofs.reset_from.Reads as reads
+use Rattle.slave_run.proofs.reset_from.Lts as lts
+use Rattle.slave_run.proofs.run.Reads as run-reads
 use Rattle.slave_steps.proofs.start_reset.Reads as start-reset-reads
 
 -- src/lib.rt:65:9

@@ -6,10 +6,10 @@ use mathlib.Core.Path.{ap}
 use Prim.Native.Nat.{_/_, _-_}
 use native.Mathlib.Omega.{arith}
 use borrow.Author.Needs.{needs}
-use Rattle.i2c_slave.proofs.run.Statement.{statement}
-use Rattle.i2c_slave.proofs.run.Tie as tie
-use Rattle.i2c_slave.proofs.run.Reads as reads
-use Rattle.i2c_slave.proofs.run.Lts as lts
+use Rattle.slave_run.proofs.run.Statement.{statement}
+use Rattle.slave_run.proofs.run.Tie as tie
+use Rattle.slave_run.proofs.run.Reads as reads
+use Rattle.slave_run.proofs.run.Lts as lts
 use Rattle.regs.proofs.access.keep.Reads as keep-reads
 use Rattle.regs.proofs.access.perform.Reads as perform-reads
 use Rattle.slave_steps.proofs.advance.Reads as advance-reads

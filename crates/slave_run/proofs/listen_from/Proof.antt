@@ -6,11 +6,11 @@ use Rattle.slave_state.specs.I2cSlave.{listen-call}
 use mathlib.Core.List.{[]}
 use denote.Ref.{now}
 use borrow.Author.Needs.{needs}
-use Rattle.i2c_slave.proofs.listen_from.Statement.{statement}
-use Rattle.i2c_slave.proofs.listen_from.Tie as tie
-use Rattle.i2c_slave.proofs.listen_from.Reads as reads
-use Rattle.i2c_slave.proofs.listen_from.Lts as lts
-use Rattle.i2c_slave.proofs.run.Reads as run-reads
+use Rattle.slave_run.proofs.listen_from.Statement.{statement}
+use Rattle.slave_run.proofs.listen_from.Tie as tie
+use Rattle.slave_run.proofs.listen_from.Reads as reads
+use Rattle.slave_run.proofs.listen_from.Lts as lts
+use Rattle.slave_run.proofs.run.Reads as run-reads
 use Rattle.slave_steps.proofs.start_listen.Reads as start-listen-reads
 
 -- src/lib.rt:74:9

@@ -5,11 +5,11 @@ use Rattle.slave_state.specs.I2cSlave.{respond-till-stop-call}
 use mathlib.Core.List.{[]}
 use denote.Ref.{now}
 use borrow.Author.Needs.{needs}
-use Rattle.i2c_slave.proofs.respond_till_stop_from.Statement.{statement}
-use Rattle.i2c_slave.proofs.respond_till_stop_from.Tie as tie
-use Rattle.i2c_slave.proofs.respond_till_stop_from.Reads as reads
-use Rattle.i2c_slave.proofs.respond_till_stop_from.Lts as lts
-use Rattle.i2c_slave.proofs.run.Reads as run-reads
+use Rattle.slave_run.proofs.respond_till_stop_from.Statement.{statement}
+use Rattle.slave_run.proofs.respond_till_stop_from.Tie as tie
+use Rattle.slave_run.proofs.respond_till_stop_from.Reads as reads
+use Rattle.slave_run.proofs.respond_till_stop_from.Lts as lts
+use Rattle.slave_run.proofs.run.Reads as run-reads
 use Rattle.slave_steps.proofs.start_respond_till_stop.Reads as start-respond-till-stop-reads
 
 -- src/lib.rt:101:9

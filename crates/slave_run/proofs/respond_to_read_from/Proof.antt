@@ -7,11 +7,11 @@ use Rattle.slave_state.specs.I2cSlave.{respond-to-read-call}
 use mathlib.Core.List.{[]}
 use denote.Ref.{now}
 use borrow.Author.Needs.{needs}
-use Rattle.i2c_slave.proofs.respond_to_read_from.Statement.{statement}
-use Rattle.i2c_slave.proofs.respond_to_read_from.Tie as tie
-use Rattle.i2c_slave.proofs.respond_to_read_from.Reads as reads
-use Rattle.i2c_slave.proofs.respond_to_read_from.Lts as lts
-use Rattle.i2c_slave.proofs.run.Reads as run-reads
+use Rattle.slave_run.proofs.respond_to_read_from.Statement.{statement}
+use Rattle.slave_run.proofs.respond_to_read_from.Tie as tie
+use Rattle.slave_run.proofs.respond_to_read_from.Reads as reads
+use Rattle.slave_run.proofs.respond_to_read_from.Lts as lts
+use Rattle.slave_run.proofs.run.Reads as run-reads
 use Rattle.slave_steps.proofs.start_respond_to_read.Reads as start-respond-to-read-reads
 
 -- src/lib.rt:87:9
