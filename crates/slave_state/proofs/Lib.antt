@@ -1,3 +1,4 @@
 -- What holds of the definitions.
 pub mod Small
 pub mod Corners
+pub mod Stores
