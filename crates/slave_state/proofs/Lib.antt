@@ -2,3 +2,6 @@
 pub mod Small
 pub mod Corners
 pub mod Stores
+pub mod Waits
+pub mod Responses
+pub mod Sends
