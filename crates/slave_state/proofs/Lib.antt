@@ -5,3 +5,4 @@ pub mod Stores
 pub mod Waits
 pub mod Responses
 pub mod Sends
+pub mod Legals

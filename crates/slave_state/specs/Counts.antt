@@ -1,4 +1,4 @@
--- What the lengths and counts of the slave's answers mean, over the log, the buffer and the state that a call leaves.
+-- What holds of every slave call, over the log, the buffer and the state that it leaves: its accesses are legal, and lengths and counts are true.
 use Prim.Native.Nat.{ℕ, _<_}
 use mathlib.Core.List.{List, [], _∷_, _++_}
 use mathlib.Core.Path.{_≡_}
@@ -8,20 +8,25 @@ use lib.ListN.{length, take, drop, replicate}
 use Rattle.regs.specs.Registers.{DATA-CMD, TX-ABRT-SOURCE}
 use Rattle.regs.specs.Fields.{dat, tx-flush-cnt}
 use Rattle.regs.specs.Program.{if_then_else_, Outcome}
-use Rattle.regs.specs.Log.{expected}
+use Rattle.regs.specs.Log.{Each, Legal, expected}
 use Rattle.regs.specs.declared.access.Entry.{Entry}
 use Rattle.regs.specs.declared.access.Entry.the-variants as E
 use Rattle.regs.specs.declared.answers.AbortReason.the-variants.{TxNotEmpty}
 use Rattle.regs.specs.declared.answers.Command.{Command}
 use Rattle.regs.specs.declared.answers.Command.the-variants.{GeneralCall, Read, WriteRead, Write}
 use Rattle.regs.specs.declared.answers.ReadStatus.the-variants.{Done, NeedMoreBytes, LeftoverBytes}
+use Rattle.regs.specs.declared.answers.Answer.{Answer}
 use Rattle.regs.specs.declared.answers.Answer.the-variants.{Heard, Responded}
 use Rattle.regs.specs.declared.answers.Reply.{Reply}
 use Rattle.regs.specs.declared.answers.Reply.the-variants.{Answered}
-use Rattle.slave_state.specs.I2cSlave.{FIFO-SIZE, abort-reason, listen-call, respond-to-read-call, respond-till-stop-call, respond-and-fill-call}
+use Rattle.slave_state.specs.I2cSlave.{Driver, FIFO-SIZE, abort-reason, listen-call, respond-to-read-call, respond-till-stop-call, respond-and-fill-call}
 use Rattle.slave_state.specs.declared.Pending.{Pending}
 use Rattle.slave_state.specs.declared.Pending.the-variants.{None, Byte}
 use Rattle.slave_state.specs.declared.SlaveState.{SlaveState}
+
+-- every access that a call logs is one that the table of registers allows
+abbrev pub LegalAccesses : Driver Answer → Type 0
+LegalAccesses p = (log readings buffer : List ℕ) (me : SlaveState) → Each Legal (expected p log readings buffer me .log)
 
 -- ---- listen
 
