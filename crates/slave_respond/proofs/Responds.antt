@@ -24,7 +24,7 @@ use Rattle.regs.specs.declared.answers.Answer.the-variants.{Accepted, Responded
 use Rattle.regs.specs.declared.access.Next.the-variants as N
 use Rattle.regs.proofs.Refine.{Agree, ends-agree, reads-agree, writes-agree, marks-agree, loop-agree}
 use Rattle.slave_state.specs.I2cSlave.{Driver, Responded-to, FIFO-SIZE, is-empty, abort-reason, send-chunk, respond-chunk, respond-abort, respond-poll, respond-mask, respond-to-read, till-stop, respond-till-stop, and-fill, respond-and-fill, answer}
-use Rattle.slave_respond.specs.Machine.{Responder, responder, machine, count-of, byte-at, response, more-bytes, fed, after-reason}
+use Rattle.slave_respond.specs.Machine.{Responder, responder, machine, CHUNK, count-of, byte-at, response, more-bytes, fed, after-reason}
 use Rattle.slave_state.specs.declared.SlaveState.{SlaveState}
 use Rattle.slave_respond.specs.declared.Job.{Job}
 use Rattle.slave_respond.specs.declared.Job.the-variants.{Respond, RespondThenFill, Fill, FillAfter}
@@ -115,9 +115,9 @@ module _ (bytes : List ℕ) where
         (λ q.
         let g : i < length src = ltb-true i (length src) q in
         let some : is-empty rest ≡ false = rw (holds, drop-cons src i 0 g) in
-        by-test (ltb (length src - i) 16)
+        by-test (ltb (length src - i) CHUNK)
         (λ q₂.
-        let s : length src - i < 16 = ltb-true (length src - i) 16 q₂ in
+        let s : length src - i < CHUNK = ltb-true (length src - i) CHUNK q₂ in
         let ln : length (drop i src) ≡ length src - i = length-drop i src in
         let more : suc (length src - i - 1) ≡ length src - i = omega arith in
         rw (q, q₂, some)
@@ -126,10 +126,10 @@ module _ (bytes : List ℕ) where
         (rw (holds, drop-drop 16 i src, drop-of-length-le src {i = i + 16} (omega arith), drop-of-length-le src {i = length src} (omega arith)))
         (λ m₂ l₂. back m₂ (omega arith)))))
         (λ q₂.
-        let s : 16 ≤ length src - i = ltb-false (length src - i) 16 q₂ in
+        let s : CHUNK ≤ length src - i = ltb-false (length src - i) CHUNK q₂ in
         rw (q, q₂, some)
-        (sends 15 m i (i + 16) _ b _ (ap (take 16) holds) refl (omega arith)
-        (λ m₁ l₁. sleeps m₁ (i + 16) _ b t (rw (holds, drop-drop 16 i src)) (λ m₂ l₂. back m₂ (omega arith))))))
+        (sends 15 m i (i + CHUNK) _ b _ (ap (take 16) holds) refl (omega arith)
+        (λ m₁ l₁. sleeps m₁ (i + CHUNK) _ b t (rw (holds, drop-drop 16 i src)) (λ m₂ l₂. back m₂ (omega arith))))))
         (λ q.
         let g : length src ≤ i = ltb-false i (length src) q in
         let none : is-empty rest ≡ true = rw (holds, drop-of-length-le src g) in

@@ -60,8 +60,12 @@ next-respond bytes job (P.Aborted a) = N.Finished (Refused (F.Abort a))
 abbrev pub response : Job → RespondPoint → Response
 response job point = record { job = job; point = point }
 
+-- a chunk's length
+abbrev pub CHUNK : ℕ
+CHUNK = 16
+
 abbrev pub chunk-end : ℕ → ℕ → ℕ
-chunk-end at count = if ltb at count then (if ltb (count - at) 16 then count else at + 16) else count
+chunk-end at count = if ltb at count then (if ltb (count - at) CHUNK then count else at + CHUNK) else count
 
 -- what a response that needs more bytes leads to
 abbrev pub more-bytes : Job → Response

@@ -15,6 +15,9 @@ ghost use Rattle.slave_respond.specs.Machine.{count-of, byte-at, answer-
 // RX_DONE, TX_EMPTY and TX_ABRT in INTR_MASK.
 const MASK: u32 = 1 << 7 | 1 << 4 | 1 << 6;
 
+// The bytes that a poll sends at most: a FIFO of them.
+const CHUNK: u16 = 16;
+
 // What is sent: the bytes of `respond_to_read`, those of `respond_and_fill`, the fill byte of `respond_till_stop`, and that of `respond_and_fill`.
 pub enum Job {
     Respond,
@@ -130,7 +133,7 @@ fn chunk_end(at: u16, count: u16) -> u16
     ensures { λ r. ⌜ r ≡ chunk-end at count ⌝ }
 {
     if at < count {
-        if count - at < 16 { count } else { at + 16 }
+        if count - at < CHUNK { count } else { at + CHUNK }
     } else {
         count
     }
