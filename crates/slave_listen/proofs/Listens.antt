@@ -1,20 +1,18 @@
 -- The machine's points of a listen do what `listen` does.
 use Prim.Native.Nat.{ℕ, zero, suc, _+_, _-_, _<_, _≤_}
 use native.Mathlib.Omega.{arith}
-use mathlib.Core.Bool.{Bool, true, false, _&&_}
+use mathlib.Core.Bool.{Bool, true, _&&_}
 use mathlib.Core.List.{List}
-use mathlib.Core.Path.{_≡_, refl, ap}
+use mathlib.Core.Path.{_≡_, refl}
 use lib.Dec.{eqb, ltb}
 use lib.ListN.{set}
 use borrow.Author.Tests.{lt-ltb, le-ltb}
 use Rattle.regs.specs.Registers.{RX-TL, INTR-MASK}
 use Rattle.regs.specs.Fields.{set-field, dat, rd-req, stop-det, gen-call, restart-det, rfne, level}
-use Rattle.regs.specs.Program.{Behaviour, ends, writes, put, by-turn, polled, Turn, Poll, pending, Result}
+use Rattle.regs.specs.Program.{Behaviour, ends, writes, put, by-turn, polled, pending}
 use Rattle.regs.specs.Machine.{Machine, stored-in}
 use Rattle.regs.specs.declared.answers.Answer.{Answer}
 use Rattle.regs.specs.declared.answers.Answer.the-variants.{Heard}
-use Rattle.regs.specs.declared.answers.Command.{Command}
-use Rattle.regs.specs.declared.answers.Refusal.{Refusal}
 use Rattle.regs.specs.declared.access.Next.the-variants as N
 use Rattle.regs.proofs.Refine.{Agree, ends-agree, reads-agree, writes-agree, marks-agree, stores-agree, asks-agree, keeps-agree, loop-agree}
 use Rattle.slave_state.specs.I2cSlave.{answer, is-some, with-pending, drain-places, listen-drain, listen-command, listen-poll, listen-mask, Listened, listen}

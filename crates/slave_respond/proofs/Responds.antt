@@ -2,8 +2,8 @@
 use Prim.Native.Nat.{ℕ, zero, suc, _+_, _-_, _<_, _≤_}
 use native.Mathlib.Omega.{arith}
 use native.Mathlib.Numerals.{add-one}
-use mathlib.Core.Bool.{Bool, true, false, _&&_}
-use mathlib.Core.List.{List, [], _∷_}
+use mathlib.Core.Bool.{true, false, _&&_}
+use mathlib.Core.List.{List, _∷_}
 use mathlib.Core.Path.{_≡_, refl, sym, ap}
 use lib.Dec.{eqb, ltb}
 use lib.ListN.{length, getD, take, drop, replicate, getD-replicate, length-drop, drop-of-length-le}
@@ -11,7 +11,7 @@ use lib.Seq.{drop-cons, drop-drop, take-all}
 use borrow.Author.Tests.{lt-ltb, le-ltb, ltb-true, ltb-false}
 use Rattle.regs.specs.Registers.{INTR-MASK, DATA-CMD}
 use Rattle.regs.specs.Fields.{set-field, tx-empty, rd-req, tx-abrt, rx-done}
-use Rattle.regs.specs.Program.{Behaviour, ends, put, by-turn, polled, Turn, Poll, pending, wait-on, Result, ok, err}
+use Rattle.regs.specs.Program.{Behaviour, ends, put, by-turn, polled, pending, wait-on, Result, ok, err}
 use Rattle.regs.specs.Machine.{Machine}
 use Rattle.regs.specs.declared.answers.AbortReason.{AbortReason}
 use Rattle.regs.specs.declared.answers.AbortReason.the-variants as A
@@ -20,7 +20,7 @@ use Rattle.regs.specs.declared.answers.ReadStatus.the-variants.{Done, NeedMoreB
 use Rattle.regs.specs.declared.answers.Refusal.{Refusal}
 use Rattle.regs.specs.declared.answers.Refusal.the-variants.{Abort}
 use Rattle.regs.specs.declared.answers.Answer.{Answer}
-use Rattle.regs.specs.declared.answers.Answer.the-variants.{Accepted, Responded, Refused}
+use Rattle.regs.specs.declared.answers.Answer.the-variants.{Accepted, Responded}
 use Rattle.regs.specs.declared.access.Next.the-variants as N
 use Rattle.regs.proofs.Refine.{Agree, ends-agree, reads-agree, writes-agree, marks-agree, loop-agree}
 use Rattle.slave_state.specs.I2cSlave.{Driver, Responded-to, FIFO-SIZE, is-empty, abort-reason, send-chunk, respond-chunk, respond-abort, respond-poll, respond-mask, respond-to-read, till-stop, respond-till-stop, and-fill, respond-and-fill, answer}

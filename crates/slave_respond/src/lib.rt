@@ -122,10 +122,7 @@ pub fn next(r: Response, bytes: &[u8]) -> Next
 fn on(job: Job, point: RespondPoint) -> Response
     ensures { λ r. ⌜ r ≡ response job point ⌝ }
 {
-    Response {
-        job,
-        point,
-    }
+    Response { job, point }
 }
 
 // Where the chunk that starts at `at` ends.
@@ -133,7 +130,11 @@ fn chunk_end(at: u16, count: u16) -> u16
     ensures { λ r. ⌜ r ≡ chunk-end at count ⌝ }
 {
     if at < count {
-        if count - at < CHUNK { count } else { at + CHUNK }
+        if count - at < CHUNK {
+            count
+        } else {
+            at + CHUNK
+        }
     } else {
         count
     }

@@ -1,9 +1,9 @@
 -- The corners that document 01 names of src/i2c_slave.rs, and the refusals, computed: what the transcription leaves on a few readings.
 use Prim.Native.Nat.{ℕ}
-use mathlib.Core.Bool.{Bool, true, false}
+use mathlib.Core.Bool.{true, false}
 use mathlib.Core.List.{List, [], _∷_, _++_}
 use mathlib.Core.Path.{_≡_, refl}
-use lib.ListN.{length, replicate}
+use lib.ListN.{replicate}
 use Rattle.regs.specs.Program.{Outcome, outcome, behaviour, Program, rounds}
 use Rattle.regs.specs.Fields.{set-field, con-slave}
 use Rattle.regs.specs.declared.access.Entry.{Entry}

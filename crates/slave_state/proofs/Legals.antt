@@ -1,24 +1,20 @@
 -- Every access of every slave call is one that the table of registers allows.
 use Prim.Native.Nat.{ℕ, zero, suc, _+_, _-_}
-use mathlib.Core.Bool.{Bool, true, false, not, _&&_}
+use mathlib.Core.Bool.{Bool}
 use mathlib.Core.List.{List, [], _∷_}
-use lib.Dec.{eqb}
 use lib.ListN.{replicate}
 use Rattle.regs.specs.Registers.{INTR-MASK}
-use Rattle.regs.specs.Fields.{first-data-byte, rfne, tx-abrt}
-use Rattle.regs.specs.Program.{put, Result, ok, err, by-turn, rounds}
+use Rattle.regs.specs.Program.{put, Result, ok, err}
 use Rattle.regs.specs.declared.answers.AbortReason.{AbortReason}
 use Rattle.regs.specs.declared.answers.AbortReason.the-variants as A
 use Rattle.regs.specs.declared.answers.ReadStatus.{ReadStatus}
 use Rattle.regs.specs.declared.answers.ReadStatus.the-variants.{Done, NeedMoreBytes, LeftoverBytes}
 use Rattle.regs.specs.declared.answers.Refusal.{Refusal}
 use Rattle.regs.proofs.Legal.{LegalB, LegalP, legal, reads-legal, writes-legal, stores-legal, asks-legal, keeps-legal, wait-on-legal, rounds-legal, legal-expected}
-use Rattle.slave_state.specs.I2cSlave.{Driver, FIFO-SIZE, Responded-to, abort-reason, reset, reset-call, drain-pending, drain-places, drain-fifo, listen-drain, listen-command, listen-poll, listen-mask, listen, listen-call, send-chunk, respond-chunk, respond-abort, respond-poll, respond-mask, respond-to-read, till-stop, respond-till-stop, and-fill, respond-and-fill, respond-to-read-call, respond-till-stop-call, respond-and-fill-call}
+use Rattle.slave_state.specs.I2cSlave.{Driver, FIFO-SIZE, Responded-to, reset, reset-call, drain-pending, drain-places, drain-fifo, listen-poll, listen-mask, listen, listen-call, send-chunk, respond-chunk, respond-abort, respond-poll, respond-mask, respond-to-read, till-stop, respond-till-stop, and-fill, respond-and-fill, respond-to-read-call, respond-till-stop-call, respond-and-fill-call}
 use Rattle.slave_state.specs.Counts.{LegalAccesses}
 use Rattle.slave_state.specs.declared.Pending.{Pending}
 use Rattle.slave_state.specs.declared.Pending.the-variants.{None, Byte}
-use Rattle.slave_state.specs.declared.SlaveState.{SlaveState}
-use Rattle.slave_state.proofs.Small.{by-test}
 
 reset-legal : (address : ℕ) (g : Bool) → LegalP (reset address g)
 unfolding reset

@@ -1,10 +1,10 @@
 -- A claim that `Waits` takes along `respond_to_read` holds of the calls that answer with it.
 use Prim.Native.Nat.{ℕ, zero, suc}
 use mathlib.Core.List.{List, [], _∷_}
-use mathlib.Core.Path.{_≡_, refl}
+use mathlib.Core.Path.{_≡_}
 use lib.Dec.{ltb}
 use lib.ListN.{length, take, drop, replicate}
-use Rattle.regs.specs.Program.{Behaviour, ends, outcome, just, Result, ok, err, rounds, by-turn, return, _>>=_}
+use Rattle.regs.specs.Program.{Behaviour, ends, outcome, just, Result, ok, err, rounds, by-turn}
 use Rattle.regs.specs.declared.answers.AbortReason.the-variants.{TxNotEmpty}
 use Rattle.regs.specs.declared.answers.Answer.{Answer}
 use Rattle.regs.specs.declared.answers.Answer.the-variants.{Accepted, Responded, Refused}

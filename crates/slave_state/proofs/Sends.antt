@@ -9,22 +9,19 @@ use lib.Dec.{eqb, ltb}
 use lib.ListN.{length, take, drop, replicate}
 use Rattle.regs.specs.Fields.{no-acknowledge, arb-lost, tx-flush-cnt}
 use Rattle.regs.specs.Registers.{TX-ABRT-SOURCE}
-use Rattle.regs.specs.Program.{if_then_else_, Behaviour, ends, Outcome, outcome, just, logged, Result, ok, err, rounds, by-turn}
+use Rattle.regs.specs.Program.{if_then_else_, Outcome, just, logged}
 use Rattle.regs.specs.declared.access.Entry.the-variants as E
-use Rattle.regs.specs.declared.answers.AbortReason.{AbortReason}
 use Rattle.regs.specs.declared.answers.AbortReason.the-variants as A
 use Rattle.regs.specs.declared.answers.Answer.{Answer}
-use Rattle.regs.specs.declared.answers.Answer.the-variants.{Accepted, Responded, Refused}
-use Rattle.regs.specs.declared.answers.ReadStatus.{ReadStatus}
+use Rattle.regs.specs.declared.answers.Answer.the-variants.{Responded, Refused}
 use Rattle.regs.specs.declared.answers.ReadStatus.the-variants.{Done, NeedMoreBytes, LeftoverBytes}
 use Rattle.regs.specs.declared.answers.Refusal.{Refusal}
 use Rattle.regs.specs.declared.answers.Reply.{Reply}
 use Rattle.regs.specs.declared.answers.Reply.the-variants.{Answered, LogFull, OutOfReadings}
-use Rattle.slave_state.specs.I2cSlave.{FIFO-SIZE, abort-reason, answer, respond-to-read, till-stop, respond-till-stop, and-fill, filled, respond-and-fill, respond-to-read-call, respond-till-stop-call, respond-and-fill-call}
-use Rattle.slave_state.specs.Counts.{words-sent, sent-first, words-by-poll, InChunks, OneChunkAPoll, SentOf, BytesInOrder, AllSent, SentFilled, FillsAfterBytes, FillsAlone, last-read, Leftover, TrueLeftover, TrueLeftoverFilled}
+use Rattle.slave_state.specs.I2cSlave.{FIFO-SIZE, abort-reason, answer}
+use Rattle.slave_state.specs.Counts.{words-sent, sent-first, words-by-poll, InChunks, OneChunkAPoll, SentOf, BytesInOrder, AllSent, SentFilled, FillsAfterBytes, FillsAlone, last-read, TrueLeftover, TrueLeftoverFilled}
 use Rattle.slave_state.specs.declared.SlaveState.{SlaveState}
-use Rattle.slave_state.proofs.Small.{by-test}
-use Rattle.slave_state.proofs.Waits.{Claim, Kept, All}
+use Rattle.slave_state.proofs.Waits.{Claim, Kept}
 use Rattle.slave_state.proofs.Responses.{Ends, Again, responded, filled-after, filled-alone}
 
 -- ---- one chunk a poll

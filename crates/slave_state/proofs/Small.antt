@@ -1,5 +1,4 @@
 -- Small facts that the refinements share.
-use Prim.Native.Nat.{ℕ}
 use mathlib.Core.Bool.{Bool, true, false, _||_, true≢false}
 use mathlib.Core.Path.{_≡_, refl, sym}
 use Rattle.slave_state.specs.I2cSlave.{is-some}

@@ -12,18 +12,18 @@ use lib.Seq.{take-suc-set, drop-set-lt}
 use borrow.Author.Tests.{eqb-false}
 use Rattle.regs.specs.Registers.{DATA-CMD, RX-TL, INTR-MASK}
 use Rattle.regs.specs.Fields.{dat, first-data-byte, rd-req, stop-det, gen-call, restart-det, rfne, level}
-use Rattle.regs.specs.Program.{Behaviour, ends, reads, writes, marks, stores, asks, keeps, cut, rounds, put, by-turn, polled, Turn, pending, when, exit, return, _>>_, _>>=_, Outcome, outcome, just, logged}
+use Rattle.regs.specs.Program.{Behaviour, ends, reads, writes, marks, stores, asks, keeps, cut, rounds, put, by-turn, polled, pending, when, exit, return, _>>_, _>>=_, Outcome, outcome, just, logged}
 use Rattle.regs.specs.declared.access.Entry.the-variants as E
 use Rattle.regs.specs.declared.answers.Answer.{Answer}
 use Rattle.regs.specs.declared.answers.Answer.the-variants.{Heard, Refused}
 use Rattle.regs.specs.declared.answers.Command.{Command}
-use Rattle.regs.specs.declared.answers.Command.the-variants.{GeneralCall, Read, WriteRead, Write}
+use Rattle.regs.specs.declared.answers.Command.the-variants.{Read, Write}
 use Rattle.regs.specs.declared.answers.Refusal.{Refusal}
 use Rattle.regs.specs.declared.answers.Refusal.the-variants.{NoPlaceForPending}
 use Rattle.regs.specs.declared.answers.Reply.{Reply}
 use Rattle.regs.specs.declared.answers.Reply.the-variants.{Answered, LogFull, OutOfReadings}
 use Rattle.slave_state.specs.I2cSlave.{Listened, answer, is-some, with-pending, drain-places, listen-drain, listen-command, listen-poll, listen-mask, listen, listen-call}
-use Rattle.slave_state.specs.Counts.{bytes-read, pending-bytes, Says, Stored, TrueLength}
+use Rattle.slave_state.specs.Counts.{bytes-read, pending-bytes, Says, TrueLength}
 use Rattle.slave_state.specs.declared.Pending.{Pending}
 use Rattle.slave_state.specs.declared.Pending.the-variants.{None, Byte}
 use Rattle.slave_state.specs.declared.SlaveState.{SlaveState}

@@ -1,7 +1,7 @@
 -- Along `respond_to_read`: a claim P about an outcome, of the abort source that was read last, the chunk that the poll is in and the bytes left after it,
 -- that holds where a run stops and that each access of a poll keeps, holds of the whole wait.
 use Prim.Native.Nat.{ℕ, zero, suc}
-use mathlib.Core.Bool.{Bool, true, false, _&&_}
+use mathlib.Core.Bool.{false, _&&_}
 use mathlib.Core.List.{List, [], _∷_}
 use mathlib.Core.Path.{_≡_, refl}
 use mathlib.Core.Logic.{_⊎_, inl, inr}
@@ -9,7 +9,7 @@ use lib.Dec.{eqb}
 use lib.ListN.{take, drop}
 use Rattle.regs.specs.Registers.{DATA-CMD, INTR-MASK, TX-ABRT-SOURCE}
 use Rattle.regs.specs.Fields.{tx-empty, rd-req, tx-abrt, rx-done}
-use Rattle.regs.specs.Program.{Behaviour, ends, reads, writes, marks, cut, rounds, put, by-turn, polled, pending, wait-on, Result, ok, err, Outcome, outcome, just, logged, PENDING}
+use Rattle.regs.specs.Program.{Behaviour, reads, writes, marks, cut, rounds, put, by-turn, polled, pending, wait-on, Result, ok, err, Outcome, outcome, just, logged, PENDING}
 use Rattle.regs.specs.declared.access.Entry.the-variants as E
 use Rattle.regs.specs.declared.answers.AbortReason.{AbortReason}
 use Rattle.regs.specs.declared.answers.AbortReason.the-variants as A

@@ -18,7 +18,6 @@ use Rattle.slave_state.specs.declared.Pending.{Pending}
 use Rattle.slave_state.specs.declared.Pending.the-variants.{None, Byte}
 use Rattle.slave_state.specs.declared.SlaveState.{SlaveState}
 use Rattle.slave_listen.specs.Machine.{next-listen, advance-listen}
-use Rattle.slave_listen.specs.declared.ListenPoint.{ListenPoint}
 use Rattle.slave_listen.specs.declared.ListenPoint.the-variants as L
 use Rattle.slave_listen.specs.declared.Listened.{Listened}
 use Rattle.slave_respond.specs.Machine.{response, next-respond, advance-respond}

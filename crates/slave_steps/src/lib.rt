@@ -91,17 +91,14 @@ fn start_respond(state: SlaveState, job: Job, length: usize) -> Slave
     }
     let n = length as u16;
     if length == 0 {
-        return at(state, n, Point::Refused(Refusal::InvalidResponseBufferLength));
+        return at(
+            state,
+            n,
+            Point::Refused(Refusal::InvalidResponseBufferLength),
+        );
     }
     let point = RespondPoint::RawIntrStat(0);
-    at(
-        state,
-        n,
-        Point::Responding(Response {
-            job,
-            point,
-        }),
-    )
+    at(state, n, Point::Responding(Response { job, point }))
 }
 
 // `respond_to_read`, of so many bytes.
@@ -117,14 +114,7 @@ pub fn start_respond_till_stop(state: SlaveState, fill: u8) -> Slave
 {
     let job = Job::Fill(fill);
     let point = RespondPoint::RawIntrStat(0);
-    at(
-        state,
-        0,
-        Point::Responding(Response {
-            job,
-            point,
-        }),
-    )
+    at(state, 0, Point::Responding(Response { job, point }))
 }
 
 // `respond_and_fill`, of so many bytes.
@@ -171,7 +161,12 @@ fn configure(state: SlaveState, length: u16, address: u16, general_call: bool) -
         address,
         general_call,
     };
-    move_to(configured, length, Point::Resetting(ResetPoint::Disable), Store::Nothing)
+    move_to(
+        configured,
+        length,
+        Point::Resetting(ResetPoint::Disable),
+        Store::Nothing,
+    )
 }
 
 fn advance_listen(state: SlaveState, length: u16, p: ListenPoint, v: u32) -> Moved

@@ -1,4 +1,4 @@
--- `i2c_slave::reset` meets its contract: a walk of its MIR, by hand (written by mkwalk.py). The state's borrow is opened, the state is copied whole and passed to `reset_from` with the other parameters, the new state is stored whole, and the borrow is closed at it.
+-- `i2c_slave::reset` meets its contract: a walk of its MIR, by hand. The state's borrow is opened, the state is copied whole and passed to `reset_from` with the other parameters, the new state is stored whole, and the borrow is closed at it.
 -- What the other parameters own goes to `reset_from` for good. All that the proof knows of `reset_from` is that it meets its contract, and nothing of the state's fields.
 -- Assumes nothing.
 use mathlib.Core.Path.{_≡_, refl, ap}

@@ -1,4 +1,4 @@
--- `i2c_slave::respond_to_read` meets its contract: a walk of its MIR, by hand (written by mkwalk.py). The state's borrow is opened, the state is copied whole and passed to `respond_to_read_from` with the other parameters, the new state is stored whole, and the borrow is closed at it.
+-- `i2c_slave::respond_to_read` meets its contract: a walk of its MIR, by hand. The state's borrow is opened, the state is copied whole and passed to `respond_to_read_from` with the other parameters, the new state is stored whole, and the borrow is closed at it.
 -- What the other parameters own goes to `respond_to_read_from` for good. All that the proof knows of `respond_to_read_from` is that it meets its contract, and nothing of the state's fields.
 -- Assumes nothing.
 use mathlib.Core.Path.{_≡_, refl, ap}

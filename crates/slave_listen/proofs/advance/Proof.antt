@@ -1,247 +1,182 @@
+-- `slave_listen::advance` meets its contract.
 use borrow.Author.Needs.{needs}
 use Rattle.slave_listen.proofs.advance.Statement.{statement}
 use Rattle.slave_listen.proofs.advance.Tie as tie
-use Rattle.slave_listen.proofs.advance.Reads as reads
-use Rattle.slave_listen.proofs.advance.Lts as lts
-use Rattle.slave_listen.proofs.drain.after_data.Reads as after-data-reads
-use Rattle.slave_listen.proofs.drain.after_level.Reads as after-level-reads
-use Rattle.slave_listen.proofs.drain.after_status.Reads as after-status-reads
-use Rattle.slave_listen.proofs.settle.Reads as settle-reads
-use Rattle.slave_listen.proofs.stay.Reads as stay-reads
 
--- src/listen.rt:136:44
 enum-told : tie.Need-enum-told
 enum-told c = search needs
 
--- src/listen.rt:136:30
 stay-requires : tie.Need-stay-requires
 stay-requires c κs = search needs
 
--- src/listen.rt:137:34
 enum-known-p : tie.Need-enum-known-p
 enum-known-p c = search needs
 
--- src/listen.rt:137:42
 stay-requires-2 : tie.Need-stay-requires-2
 stay-requires-2 c κs = search needs
 
--- src/listen.rt:138:28
 enum-known-p-2 : tie.Need-enum-known-p-2
 enum-known-p-2 c = search needs
 
--- src/listen.rt:138:42
 after-level-requires : tie.Need-after-level-requires
 after-level-requires c κs = search needs
 
--- src/listen.rt:139:29
 enum-known-p-3 : tie.Need-enum-known-p-3
 enum-known-p-3 c = search needs
 
--- src/listen.rt:139:60
 after-status-requires : tie.Need-after-status-requires
 after-status-requires c κs = search needs
 
--- src/listen.rt:139:46
 stay-requires-3 : tie.Need-stay-requires-3
 stay-requires-3 c κs = search needs
 
--- src/listen.rt:140:30
 enum-known-p-4 : tie.Need-enum-known-p-4
 enum-known-p-4 c = search needs
 
--- src/listen.rt:140:47
 after-data-requires : tie.Need-after-data-requires
 after-data-requires c κs = search needs
 
--- src/listen.rt:141:32
 enum-known-p-5 : tie.Need-enum-known-p-5
 enum-known-p-5 c = search needs
 
--- src/listen.rt:141:60
 settle-requires : tie.Need-settle-requires
 settle-requires c κs = search needs
 
--- src/listen.rt:141:46
 stay-requires-4 : tie.Need-stay-requires-4
 stay-requires-4 c κs = search needs
 
--- src/listen.rt:142:32
 enum-known-p-6 : tie.Need-enum-known-p-6
 enum-known-p-6 c = search needs
 
--- src/listen.rt:142:40
 stay-requires-5 : tie.Need-stay-requires-5
 stay-requires-5 c κs = search needs
 
--- src/listen.rt:143:34
 enum-known-p-7 : tie.Need-enum-known-p-7
 enum-known-p-7 c = search needs
 
--- src/listen.rt:143:42
 stay-requires-6 : tie.Need-stay-requires-6
 stay-requires-6 c κs = search needs
 
--- src/listen.rt:144:38
 enum-known-p-8 : tie.Need-enum-known-p-8
 enum-known-p-8 c = search needs
 
--- src/listen.rt:144:46
 stay-requires-7 : tie.Need-stay-requires-7
 stay-requires-7 c κs = search needs
 
--- src/listen.rt:148:28
 enum-known-p-9 : tie.Need-enum-known-p-9
 enum-known-p-9 c = search needs
 
--- src/listen.rt:148:36
 stay-requires-8 : tie.Need-stay-requires-8
 stay-requires-8 c κs = search needs
 
--- src/listen.rt:149:44
 enum-told-2 : tie.Need-enum-told-2
 enum-told-2 c = search needs
 
--- src/listen.rt:149:30
 stay-requires-9 : tie.Need-stay-requires-9
 stay-requires-9 c κs = search needs
 
--- src/listen.rt:150:51
 enum-told-3 : tie.Need-enum-told-3
 enum-told-3 c = search needs
 
--- src/listen.rt:150:37
 stay-requires-10 : tie.Need-stay-requires-10
 stay-requires-10 c κs = search needs
 
--- src/listen.rt:151:74
 enum-told-4 : tie.Need-enum-told-4
 enum-told-4 c = search needs
 
--- src/listen.rt:151:41
 stay-requires-11 : tie.Need-stay-requires-11
 stay-requires-11 c κs = search needs
 
--- src/listen.rt:152:32
 enum-known-p-10 : tie.Need-enum-known-p-10
 enum-known-p-10 c = search needs
 
--- src/listen.rt:152:40
 stay-requires-12 : tie.Need-stay-requires-12
 stay-requires-12 c κs = search needs
 
--- src/listen.rt:153:31
 enum-known-p-11 : tie.Need-enum-known-p-11
 enum-known-p-11 c = search needs
 
--- src/listen.rt:153:39
 stay-requires-13 : tie.Need-stay-requires-13
 stay-requires-13 c κs = search needs
 
--- src/listen.rt:154:27
 enum-known-p-12 : tie.Need-enum-known-p-12
 enum-known-p-12 c = search needs
 
--- src/listen.rt:154:35
 stay-requires-14 : tie.Need-stay-requires-14
 stay-requires-14 c κs = search needs
 
--- src/listen.rt:155:28
 enum-known-p-13 : tie.Need-enum-known-p-13
 enum-known-p-13 c = search needs
 
--- src/listen.rt:155:34
 stay-requires-15 : tie.Need-stay-requires-15
 stay-requires-15 c κs = search needs
 
--- src/listen.rt:156:35
 enum-known-p-14 : tie.Need-enum-known-p-14
 enum-known-p-14 c = search needs
 
--- src/listen.rt:156:41
 stay-requires-16 : tie.Need-stay-requires-16
 stay-requires-16 c κs = search needs
 
--- src/listen.rt:157:41
 enum-known-p-15 : tie.Need-enum-known-p-15
 enum-known-p-15 c = search needs
 
--- src/listen.rt:157:47
 stay-requires-17 : tie.Need-stay-requires-17
 stay-requires-17 c κs = search needs
 
--- src/listen.rt:132:1
 returns : tie.Need-returns
 returns c = simp (c .before .enum-told .given .1, c .stay .ensures)
 
--- src/listen.rt:132:1
 returns-2 : tie.Need-returns-2
 returns-2 c = simp (c .before .before .p .given .1, c .stay2 .ensures)
 
--- src/listen.rt:132:1
 returns-3 : tie.Need-returns-3
 returns-3 c = simp (c .before .before .p2 .given .1, c .after-level .ensures)
 
--- src/listen.rt:132:1
 returns-4 : tie.Need-returns-4
 returns-4 c = simp (c .before .before .before .p3 .given .1, c .before .after-status .ensures, c .stay3 .ensures)
 
--- src/listen.rt:132:1
 returns-5 : tie.Need-returns-5
 returns-5 c = simp (c .before .before .p4 .given .1, c .after-data .ensures)
 
--- src/listen.rt:132:1
 returns-6 : tie.Need-returns-6
 returns-6 c = simp (c .before .before .before .p5 .given .1, c .before .settle .ensures, c .stay4 .ensures)
 
--- src/listen.rt:132:1
 returns-7 : tie.Need-returns-7
 returns-7 c = simp (c .before .before .p6 .given .1, c .stay5 .ensures)
 
--- src/listen.rt:132:1
 returns-8 : tie.Need-returns-8
 returns-8 c = simp (c .before .before .p7 .given .1, c .stay6 .ensures)
 
--- src/listen.rt:132:1
 returns-9 : tie.Need-returns-9
 returns-9 c = simp (c .before .before .p8 .given .1, c .stay7 .ensures)
 
--- src/listen.rt:132:1
 returns-10 : tie.Need-returns-10
 returns-10 c = simp (c .before .before .p9 .given .1, c .stay8 .ensures)
 
--- src/listen.rt:132:1
 returns-11 : tie.Need-returns-11
 returns-11 c = simp (c .before .enum-told2 .given .1, c .stay9 .ensures)
 
--- src/listen.rt:132:1
 returns-12 : tie.Need-returns-12
 returns-12 c = simp (c .before .enum-told3 .given .1, c .stay10 .ensures)
 
--- src/listen.rt:132:1
 returns-13 : tie.Need-returns-13
 returns-13 c = simp (c .before .enum-told4 .given .1, c .stay11 .ensures)
 
--- src/listen.rt:132:1
 returns-14 : tie.Need-returns-14
 returns-14 c = simp (c .before .before .p10 .given .1, c .stay12 .ensures)
 
--- src/listen.rt:132:1
 returns-15 : tie.Need-returns-15
 returns-15 c = simp (c .before .before .p11 .given .1, c .stay13 .ensures)
 
--- src/listen.rt:132:1
 returns-16 : tie.Need-returns-16
 returns-16 c = simp (c .before .before .p12 .given .1, c .stay14 .ensures)
 
--- src/listen.rt:132:1
 returns-17 : tie.Need-returns-17
 returns-17 c = simp (c .before .before .p13 .given .1, c .stay15 .ensures)
 
--- src/listen.rt:132:1
 returns-18 : tie.Need-returns-18
 returns-18 c = simp (c .before .before .p14 .given .1, c .stay16 .ensures)
 
--- src/listen.rt:132:1
 returns-19 : tie.Need-returns-19
 returns-19 c = simp (c .before .before .p15 .given .1, c .stay17 .ensures)
 

@@ -1,70 +1,49 @@
+-- `slave_listen::settle` meets its contract.
 use borrow.Author.Tests.{eq-eqb, ne-eqb}
 use mathlib.Core.Path.{sym, _∙_}
 use borrow.Author.Needs.{needs}
 use Rattle.slave_listen.proofs.settle.Statement.{statement}
 use Rattle.slave_listen.proofs.settle.Tie as tie
-use Rattle.slave_listen.proofs.settle.Reads as reads
-use Rattle.slave_listen.proofs.settle.Lts as lts
-use Rattle.regs.proofs.fields.has_gen_call.Reads as has-gen-call-reads
-use Rattle.regs.proofs.fields.has_rd_req.Reads as has-rd-req-reads
-use Rattle.regs.proofs.fields.has_stop_det.Reads as has-stop-det-reads
-use Rattle.slave_listen.proofs.is_general_call.Reads as is-general-call-reads
-use Rattle.slave_listen.proofs.is_write.Reads as is-write-reads
-use Rattle.slave_listen.proofs.is_write_read.Reads as is-write-read-reads
 
--- src/listen.rt:98:12
 has-gen-call-requires : tie.Need-has-gen-call-requires
 has-gen-call-requires c κs = search needs
 
--- src/listen.rt:99:13
 returns : tie.Need-returns
 returns c = rw (eq-eqb _ _ (c .before .before .if1 .taken), sym (c .before .has-gen-call .ensures) ∙ c .if2 .taken)
 
--- src/listen.rt:101:9
 returns-2 : tie.Need-returns-2
 returns-2 c = rw (eq-eqb _ _ (c .before .before .if1 .taken), sym (c .before .has-gen-call .ensures) ∙ c .if2 .left)
 
--- src/listen.rt:103:8
 is-write-read-requires : tie.Need-is-write-read-requires
 is-write-read-requires c κs = search needs
 
--- src/listen.rt:104:9
 returns-3 : tie.Need-returns-3
 returns-3 c = rw (ne-eqb _ _ (c .before .before .if1 .left), sym (c .before .is-write-read .ensures) ∙ c .if3 .taken)
 
--- src/listen.rt:106:8
 is-general-call-requires : tie.Need-is-general-call-requires
 is-general-call-requires c κs = search needs
 
--- src/listen.rt:107:9
 returns-4 : tie.Need-returns-4
 returns-4 c = rw (ne-eqb _ _ (c .before .before .before .before .if1 .left), sym (c .before .before .before .is-write-read .ensures) ∙ c .before .before .if3 .left, sym (c .before .is-general-call .ensures) ∙ c .if4 .taken)
 
--- src/listen.rt:109:8
 is-write-requires : tie.Need-is-write-requires
 is-write-requires c κs = search needs
 
--- src/listen.rt:110:9
 returns-5 : tie.Need-returns-5
 returns-5 c = rw (ne-eqb _ _ (c .before .before .before .before .before .before .if1 .left), sym (c .before .before .before .before .before .is-write-read .ensures) ∙ c .before .before .before .before .if3 .left, sym (c .before .before .before .is-general-call .ensures) ∙ c .before .before .if4 .left, sym (c .before .is-write .ensures) ∙ c .if5 .taken)
 
--- src/listen.rt:112:8
 has-rd-req-requires : tie.Need-has-rd-req-requires
 has-rd-req-requires c κs = search needs
 
--- src/listen.rt:113:9
 returns-6 : tie.Need-returns-6
 returns-6 c = rw (ne-eqb _ _ (c .before .before .before .before .before .before .before .before .if1 .left), sym (c .before .before .before .before .before .before .before .is-write-read .ensures) ∙ c .before .before .before .before .before .before .if3 .left, sym (c .before .before .before .before .before .is-general-call .ensures) ∙ c .before .before .before .before .if4 .left, sym (c .before .before .before .is-write .ensures) ∙ c .before .before .if5 .left, sym (c .before .has-rd-req .ensures) ∙ c .if6 .taken)
 
--- src/listen.rt:115:8
 has-stop-det-requires : tie.Need-has-stop-det-requires
 has-stop-det-requires c κs = search needs
 
--- src/listen.rt:116:9
 returns-7 : tie.Need-returns-7
 returns-7 c = rw (ne-eqb _ _ (c .before .before .before .before .before .before .before .before .before .before .if1 .left), sym (c .before .before .before .before .before .before .before .before .before .is-write-read .ensures) ∙ c .before .before .before .before .before .before .before .before .if3 .left, sym (c .before .before .before .before .before .before .before .is-general-call .ensures) ∙ c .before .before .before .before .before .before .if4 .left, sym (c .before .before .before .before .before .is-write .ensures) ∙ c .before .before .before .before .if5 .left, sym (c .before .before .before .has-rd-req .ensures) ∙ c .before .before .if6 .left, sym (c .before .has-stop-det .ensures) ∙ c .if7 .taken)
 
--- src/listen.rt:94:1
 returns-8 : tie.Need-returns-8
 returns-8 c = rw (ne-eqb _ _ (c .before .before .before .before .before .before .before .before .before .before .if1 .left), sym (c .before .before .before .before .before .before .before .before .before .is-write-read .ensures) ∙ c .before .before .before .before .before .before .before .before .if3 .left, sym (c .before .before .before .before .before .before .before .is-general-call .ensures) ∙ c .before .before .before .before .before .before .if4 .left, sym (c .before .before .before .before .before .is-write .ensures) ∙ c .before .before .before .before .if5 .left, sym (c .before .before .before .has-rd-req .ensures) ∙ c .before .before .if6 .left, sym (c .before .has-stop-det .ensures) ∙ c .if7 .left)
 

@@ -1,27 +1,21 @@
+-- `slave_respond::after_byte` meets its contract.
 use borrow.Author.Tests.{le-ltb, lt-ltb}
 use borrow.Author.Needs.{needs}
 use Rattle.slave_respond.proofs.after_byte.Statement.{statement}
 use Rattle.slave_respond.proofs.after_byte.Tie as tie
-use Rattle.slave_respond.proofs.after_byte.Reads as reads
-use Rattle.slave_respond.proofs.after_byte.Lts as lts
 
--- src/respond.rt:204:12
 add-if2 : tie.Need-add-if2
 add-if2 c = search needs
 
--- src/respond.rt:205:43
 add-t6 : tie.Need-add-t6
 add-t6 c = search needs
 
--- src/respond.rt:205:13
 returns : tie.Need-returns
 returns c = simp (lt-ltb _ _ (c .before .if1 .taken), lt-ltb _ _ (c .if2 .taken))
 
--- src/respond.rt:207:9
 returns-2 : tie.Need-returns-2
 returns-2 c = simp (lt-ltb _ _ (c .before .if1 .taken), le-ltb _ _ (c .if2 .left))
 
--- src/respond.rt:200:1
 returns-3 : tie.Need-returns-3
 returns-3 c = simp (le-ltb _ _ (c .if1 .left))
 

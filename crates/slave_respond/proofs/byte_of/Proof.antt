@@ -1,26 +1,20 @@
+-- `slave_respond::byte_of` meets its contract.
 use denote.Ref.{now}
 use mathlib.Core.Path.{sym}
 use lib.ListN.{List·getD-eq-default}
 use borrow.Author.Needs.{needs}
 use Rattle.slave_respond.proofs.byte_of.Statement.{statement}
 use Rattle.slave_respond.proofs.byte_of.Tie as tie
-use Rattle.slave_respond.proofs.byte_of.Reads as reads
-use Rattle.slave_respond.proofs.byte_of.Lts as lts
-use Rattle.slave_respond.proofs.wide.Reads as wide-reads
 
--- src/respond.rt:68:17
 shared-slice-read-b : tie.Need-shared-slice-read-b
 shared-slice-read-b c = search needs
 
--- src/respond.rt:69:9
 wide-requires : tie.Need-wide-requires
 wide-requires c κs = search needs
 
--- src/respond.rt:63:1
 returns : tie.Need-returns
 returns c = search needs
 
--- src/respond.rt:63:1
 returns-2 : tie.Need-returns-2
 returns-2 c = sym (List·getD-eq-default (now (c .before .before .args .bytes)) 0 (c .if1 .left))
 

@@ -1,27 +1,21 @@
+-- `slave_respond::chunk_end` meets its contract.
 use borrow.Author.Tests.{le-ltb, lt-ltb}
 use borrow.Author.Needs.{needs}
 use Rattle.slave_respond.proofs.chunk_end.Statement.{statement}
 use Rattle.slave_respond.proofs.chunk_end.Tie as tie
-use Rattle.slave_respond.proofs.chunk_end.Reads as reads
-use Rattle.slave_respond.proofs.chunk_end.Lts as lts
 
--- src/respond.rt:132:12
 sub-if2 : tie.Need-sub-if2
 sub-if2 c = search needs
 
--- src/respond.rt:132:45
 add-result : tie.Need-add-result
 add-result c = search needs
 
--- src/respond.rt:128:1
 returns : tie.Need-returns
 returns c = simp (lt-ltb _ _ (c .before .if1 .taken), lt-ltb _ _ (c .if2 .taken))
 
--- src/respond.rt:128:1
 returns-2 : tie.Need-returns-2
 returns-2 c = simp (lt-ltb _ _ (c .before .if1 .taken), le-ltb _ _ (c .if2 .left))
 
--- src/respond.rt:128:1
 returns-3 : tie.Need-returns-3
 returns-3 c = simp (le-ltb _ _ (c .if1 .left))
 

@@ -1,57 +1,40 @@
+-- `slave_respond::feed` meets its contract.
 use borrow.Author.Tests.{le-ltb, lt-ltb}
 use mathlib.Core.Path.{sym, _∙_}
 use borrow.Author.Needs.{needs}
 use Rattle.slave_respond.proofs.feed.Statement.{statement}
 use Rattle.slave_respond.proofs.feed.Tie as tie
-use Rattle.slave_respond.proofs.feed.Reads as reads
-use Rattle.slave_respond.proofs.feed.Lts as lts
-use Rattle.regs.proofs.fields.has_rx_done.Reads as has-rx-done-reads
-use Rattle.slave_respond.proofs.chunk_end.Reads as chunk-end-reads
-use Rattle.slave_respond.proofs.is_hungry.Reads as is-hungry-reads
-use Rattle.slave_respond.proofs.more.Reads as more-reads
-use Rattle.slave_respond.proofs.on.Reads as on-reads
 
--- src/respond.rt:161:51
 chunk-end-requires : tie.Need-chunk-end-requires
 chunk-end-requires c κs = search needs
 
--- src/respond.rt:161:9
 on-requires : tie.Need-on-requires
 on-requires c κs = search needs
 
--- src/respond.rt:161:9
 returns : tie.Need-returns
 returns c = simp (lt-ltb _ _ (c .before .before .if1 .taken), c .before .chunk-end .ensures, c .on .ensures)
 
--- src/respond.rt:163:8
 has-rx-done-requires : tie.Need-has-rx-done-requires
 has-rx-done-requires c κs = search needs
 
--- src/respond.rt:164:9
 on-requires-2 : tie.Need-on-requires-2
 on-requires-2 c κs = search needs
 
--- src/respond.rt:164:9
 returns-2 : tie.Need-returns-2
 returns-2 c = simp (le-ltb _ _ (c .before .before .before .if1 .left), sym (c .before .before .has-rx-done .ensures) ∙ c .before .if2 .taken, c .on2 .ensures)
 
--- src/respond.rt:166:8
 is-hungry-requires : tie.Need-is-hungry-requires
 is-hungry-requires c κs = search needs
 
--- src/respond.rt:167:9
 more-requires : tie.Need-more-requires
 more-requires c κs = search needs
 
--- src/respond.rt:167:9
 returns-3 : tie.Need-returns-3
 returns-3 c = simp (le-ltb _ _ (c .before .before .before .before .before .if1 .left), sym (c .before .before .before .before .has-rx-done .ensures) ∙ c .before .before .before .if2 .left, sym (c .before .before .is-hungry .ensures) ∙ c .before .if3 .taken, c .more .ensures)
 
--- src/respond.rt:169:5
 on-requires-3 : tie.Need-on-requires-3
 on-requires-3 c κs = search needs
 
--- src/respond.rt:157:1
 returns-4 : tie.Need-returns-4
 returns-4 c = simp (le-ltb _ _ (c .before .before .before .before .before .if1 .left), sym (c .before .before .before .before .has-rx-done .ensures) ∙ c .before .before .before .if2 .left, sym (c .before .before .is-hungry .ensures) ∙ c .before .if3 .left, c .on3 .ensures)
 

@@ -1,55 +1,41 @@
+-- `slave_respond::more` meets its contract.
 use borrow.Author.Needs.{needs}
 use Rattle.slave_respond.proofs.more.Statement.{statement}
 use Rattle.slave_respond.proofs.more.Tie as tie
-use Rattle.slave_respond.proofs.more.Reads as reads
-use Rattle.slave_respond.proofs.more.Lts as lts
-use Rattle.slave_respond.proofs.on.Reads as on-reads
 
--- src/respond.rt:143:28
 enum-told : tie.Need-enum-told
 enum-told c = search needs
 
--- src/respond.rt:143:25
 on-requires : tie.Need-on-requires
 on-requires c κs = search needs
 
--- src/respond.rt:144:30
 enum-known-job : tie.Need-enum-known-job
 enum-known-job c = search needs
 
--- src/respond.rt:144:36
 on-requires-2 : tie.Need-on-requires-2
 on-requires-2 c κs = search needs
 
--- src/respond.rt:145:19
 enum-known-job-2 : tie.Need-enum-known-job-2
 enum-known-job-2 c = search needs
 
--- src/respond.rt:145:25
 on-requires-3 : tie.Need-on-requires-3
 on-requires-3 c κs = search needs
 
--- src/respond.rt:146:24
 enum-known-job-3 : tie.Need-enum-known-job-3
 enum-known-job-3 c = search needs
 
--- src/respond.rt:146:30
 on-requires-4 : tie.Need-on-requires-4
 on-requires-4 c κs = search needs
 
--- src/respond.rt:139:1
 returns : tie.Need-returns
 returns c = simp (c .before .enum-told .given .1, c .on .ensures)
 
--- src/respond.rt:139:1
 returns-2 : tie.Need-returns-2
 returns-2 c = simp (c .before .before .job .given .1, c .on2 .ensures)
 
--- src/respond.rt:139:1
 returns-3 : tie.Need-returns-3
 returns-3 c = simp (c .before .before .job2 .given .1, c .on3 .ensures)
 
--- src/respond.rt:139:1
 returns-4 : tie.Need-returns-4
 returns-4 c = simp (c .before .before .job3 .given .1, c .on4 .ensures)
 

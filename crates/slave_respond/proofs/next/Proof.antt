@@ -1,104 +1,77 @@
+-- `slave_respond::next` meets its contract.
 use borrow.Author.Needs.{needs}
 use Rattle.slave_respond.proofs.next.Statement.{statement}
 use Rattle.slave_respond.proofs.next.Tie as tie
-use Rattle.slave_respond.proofs.next.Reads as reads
-use Rattle.slave_respond.proofs.next.Lts as lts
-use Rattle.slave_respond.proofs.answer.Reads as answer-reads
-use Rattle.slave_respond.proofs.byte_at.Reads as byte-at-reads
 
--- src/respond.rt:104:41
 enum-told : tie.Need-enum-told
 enum-told c = search needs
 
--- src/respond.rt:105:45
 enum-told-2 : tie.Need-enum-told-2
 enum-told-2 c = search needs
 
--- src/respond.rt:106:39
 enum-told-3 : tie.Need-enum-told-3
 enum-told-3 c = search needs
 
--- src/respond.rt:107:37
 enum-told-4 : tie.Need-enum-told-4
 enum-told-4 c = search needs
 
--- src/respond.rt:108:41
 enum-told-5 : tie.Need-enum-told-5
 enum-told-5 c = search needs
 
--- src/respond.rt:109:31
 enum-known-point : tie.Need-enum-known-point
 enum-known-point c = search needs
 
--- src/respond.rt:109:68
 byte-at-requires : tie.Need-byte-at-requires
 byte-at-requires c κs = search needs
 
--- src/respond.rt:110:36
 enum-told-6 : tie.Need-enum-told-6
 enum-told-6 c = search needs
 
--- src/respond.rt:111:38
 enum-told-7 : tie.Need-enum-told-7
 enum-told-7 c = search needs
 
--- src/respond.rt:112:34
 enum-told-8 : tie.Need-enum-told-8
 enum-told-8 c = search needs
 
--- src/respond.rt:113:29
 enum-known-point-2 : tie.Need-enum-known-point-2
 enum-known-point-2 c = search needs
 
--- src/respond.rt:113:50
 answer-requires : tie.Need-answer-requires
 answer-requires c κs = search needs
 
--- src/respond.rt:114:31
 enum-known-point-3 : tie.Need-enum-known-point-3
 enum-known-point-3 c = search needs
 
--- src/respond.rt:98:1
 returns : tie.Need-returns
 returns c = simp (c .enum-told .given .1)
 
--- src/respond.rt:98:1
 returns-2 : tie.Need-returns-2
 returns-2 c = simp (c .enum-told2 .given .1)
 
--- src/respond.rt:98:1
 returns-3 : tie.Need-returns-3
 returns-3 c = simp (c .enum-told3 .given .1)
 
--- src/respond.rt:98:1
 returns-4 : tie.Need-returns-4
 returns-4 c = simp (c .enum-told4 .given .1)
 
--- src/respond.rt:98:1
 returns-5 : tie.Need-returns-5
 returns-5 c = simp (c .enum-told5 .given .1)
 
--- src/respond.rt:98:1
 returns-6 : tie.Need-returns-6
 returns-6 c = simp (c .before .before .point .given .1, c .byte-at .ensures)
 
--- src/respond.rt:98:1
 returns-7 : tie.Need-returns-7
 returns-7 c = simp (c .enum-told6 .given .1)
 
--- src/respond.rt:98:1
 returns-8 : tie.Need-returns-8
 returns-8 c = simp (c .enum-told7 .given .1)
 
--- src/respond.rt:98:1
 returns-9 : tie.Need-returns-9
 returns-9 c = simp (c .enum-told8 .given .1)
 
--- src/respond.rt:98:1
 returns-10 : tie.Need-returns-10
 returns-10 c = simp (c .before .before .point2 .given .1, c .answer .ensures)
 
--- src/respond.rt:98:1
 returns-11 : tie.Need-returns-11
 returns-11 c = simp (c .before .point3 .given .1)
 

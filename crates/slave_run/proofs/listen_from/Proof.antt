@@ -1,3 +1,4 @@
+-- `slave_run::listen_from` meets its contract.
 use lib.ListN.{length}
 use Rattle.regs.proofs.Refine.{leaves-all}
 use Rattle.slave_steps.proofs.Agrees.{listen-agrees}
@@ -8,32 +9,22 @@ use denote.Ref.{now}
 use borrow.Author.Needs.{needs}
 use Rattle.slave_run.proofs.listen_from.Statement.{statement}
 use Rattle.slave_run.proofs.listen_from.Tie as tie
-use Rattle.slave_run.proofs.listen_from.Reads as reads
-use Rattle.slave_run.proofs.listen_from.Lts as lts
-use Rattle.slave_run.proofs.run.Reads as run-reads
-use Rattle.slave_steps.proofs.start_listen.Reads as start-listen-reads
 
--- src/lib.rt:74:9
 start-listen-requires : tie.Need-start-listen-requires
 start-listen-requires c κs = search needs
 
--- src/lib.rt:75:12
 slice-aggregate-run : tie.Need-slice-aggregate-run
 slice-aggregate-run c = search needs
 
--- src/lib.rt:75:5
 run-requires : tie.Need-run-requires
 run-requires c κs = search needs
 
--- src/lib.rt:71:1
 same-length : tie.Need-same-length
 same-length c = search needs
 
--- src/lib.rt:71:1
 same-length-2 : tie.Need-same-length-2
 same-length-2 c = search needs
 
--- src/lib.rt:71:1
 returns : tie.Need-returns
 returns c =
     let d = c .before .before .before .before in

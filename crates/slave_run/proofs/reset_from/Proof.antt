@@ -1,3 +1,4 @@
+-- `slave_run::reset_from` meets its contract.
 use Rattle.regs.proofs.Refine.{leaves-state}
 use Rattle.slave_steps.proofs.Resets.{reset-agrees}
 use Rattle.slave_steps.specs.Machine.{machine, start-reset}
@@ -7,32 +8,22 @@ use denote.Ref.{now}
 use borrow.Author.Needs.{needs}
 use Rattle.slave_run.proofs.reset_from.Statement.{statement}
 use Rattle.slave_run.proofs.reset_from.Tie as tie
-use Rattle.slave_run.proofs.reset_from.Reads as reads
-use Rattle.slave_run.proofs.reset_from.Lts as lts
-use Rattle.slave_run.proofs.run.Reads as run-reads
-use Rattle.slave_steps.proofs.start_reset.Reads as start-reset-reads
 
--- src/lib.rt:65:9
 start-reset-requires : tie.Need-start-reset-requires
 start-reset-requires c κs = search needs
 
--- src/lib.rt:67:12
 slice-aggregate-run : tie.Need-slice-aggregate-run
 slice-aggregate-run c = search needs
 
--- src/lib.rt:67:32
 slice-aggregate-run-2 : tie.Need-slice-aggregate-run-2
 slice-aggregate-run-2 c = search needs
 
--- src/lib.rt:67:5
 run-requires : tie.Need-run-requires
 run-requires c κs = search needs
 
--- src/lib.rt:56:1
 same-length : tie.Need-same-length
 same-length c = search needs
 
--- src/lib.rt:56:1
 returns : tie.Need-returns
 returns c =
     let d = c .before .before .before in

@@ -1,3 +1,4 @@
+-- `slave_run::respond_and_fill_from` meets its contract.
 use lib.ListN.{length}
 use Rattle.slave_respond.specs.declared.Job.the-variants.{RespondThenFill}
 use Rattle.regs.proofs.Refine.{leaves-state}
@@ -9,28 +10,19 @@ use denote.Ref.{now}
 use borrow.Author.Needs.{needs}
 use Rattle.slave_run.proofs.respond_and_fill_from.Statement.{statement}
 use Rattle.slave_run.proofs.respond_and_fill_from.Tie as tie
-use Rattle.slave_run.proofs.respond_and_fill_from.Reads as reads
-use Rattle.slave_run.proofs.respond_and_fill_from.Lts as lts
-use Rattle.slave_run.proofs.run.Reads as run-reads
-use Rattle.slave_steps.proofs.start_respond_and_fill.Reads as start-respond-and-fill-reads
 
--- src/lib.rt:116:9
 start-respond-and-fill-requires : tie.Need-start-respond-and-fill-requires
 start-respond-and-fill-requires c κs = search needs
 
--- src/lib.rt:118:34
 slice-aggregate-run : tie.Need-slice-aggregate-run
 slice-aggregate-run c = search needs
 
--- src/lib.rt:118:5
 run-requires : tie.Need-run-requires
 run-requires c κs = search needs
 
--- src/lib.rt:107:1
 same-length : tie.Need-same-length
 same-length c = search needs
 
--- src/lib.rt:107:1
 returns : tie.Need-returns
 returns c =
     let d = c .before .before .before in

@@ -1,3 +1,4 @@
+-- `slave_run::respond_till_stop_from` meets its contract.
 use Rattle.regs.proofs.Refine.{leaves-state}
 use Rattle.slave_steps.proofs.Agrees.{respond-till-stop-agrees}
 use Rattle.slave_steps.specs.Machine.{machine, start-fill}
@@ -7,32 +8,22 @@ use denote.Ref.{now}
 use borrow.Author.Needs.{needs}
 use Rattle.slave_run.proofs.respond_till_stop_from.Statement.{statement}
 use Rattle.slave_run.proofs.respond_till_stop_from.Tie as tie
-use Rattle.slave_run.proofs.respond_till_stop_from.Reads as reads
-use Rattle.slave_run.proofs.respond_till_stop_from.Lts as lts
-use Rattle.slave_run.proofs.run.Reads as run-reads
-use Rattle.slave_steps.proofs.start_respond_till_stop.Reads as start-respond-till-stop-reads
 
--- src/lib.rt:101:9
 start-respond-till-stop-requires : tie.Need-start-respond-till-stop-requires
 start-respond-till-stop-requires c κs = search needs
 
--- src/lib.rt:103:12
 slice-aggregate-run : tie.Need-slice-aggregate-run
 slice-aggregate-run c = search needs
 
--- src/lib.rt:103:32
 slice-aggregate-run-2 : tie.Need-slice-aggregate-run-2
 slice-aggregate-run-2 c = search needs
 
--- src/lib.rt:103:5
 run-requires : tie.Need-run-requires
 run-requires c κs = search needs
 
--- src/lib.rt:93:1
 same-length : tie.Need-same-length
 same-length c = search needs
 
--- src/lib.rt:93:1
 returns : tie.Need-returns
 returns c =
     let d = c .before .before .before in

@@ -1,3 +1,4 @@
+-- `slave_run::respond_to_read_from` meets its contract.
 use lib.ListN.{length}
 use Rattle.slave_respond.specs.declared.Job.the-variants.{Respond}
 use Rattle.regs.proofs.Refine.{leaves-state}
@@ -9,28 +10,19 @@ use denote.Ref.{now}
 use borrow.Author.Needs.{needs}
 use Rattle.slave_run.proofs.respond_to_read_from.Statement.{statement}
 use Rattle.slave_run.proofs.respond_to_read_from.Tie as tie
-use Rattle.slave_run.proofs.respond_to_read_from.Reads as reads
-use Rattle.slave_run.proofs.respond_to_read_from.Lts as lts
-use Rattle.slave_run.proofs.run.Reads as run-reads
-use Rattle.slave_steps.proofs.start_respond_to_read.Reads as start-respond-to-read-reads
 
--- src/lib.rt:87:9
 start-respond-to-read-requires : tie.Need-start-respond-to-read-requires
 start-respond-to-read-requires c κs = search needs
 
--- src/lib.rt:89:34
 slice-aggregate-run : tie.Need-slice-aggregate-run
 slice-aggregate-run c = search needs
 
--- src/lib.rt:89:5
 run-requires : tie.Need-run-requires
 run-requires c κs = search needs
 
--- src/lib.rt:79:1
 same-length : tie.Need-same-length
 same-length c = search needs
 
--- src/lib.rt:79:1
 returns : tie.Need-returns
 returns c =
     let d = c .before .before .before in

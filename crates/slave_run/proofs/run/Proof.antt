@@ -1,3 +1,4 @@
+-- `slave_run::run` meets its contract.
 use Rattle.slave_steps.specs.declared.Moved.{Moved}
 use Rattle.slave_steps.specs.Machine.{machine}
 use Rattle.regs.proofs.Going.{Going, begun, stopped, more, turned}
@@ -8,12 +9,6 @@ use native.Mathlib.Omega.{arith}
 use borrow.Author.Needs.{needs}
 use Rattle.slave_run.proofs.run.Statement.{statement}
 use Rattle.slave_run.proofs.run.Tie as tie
-use Rattle.slave_run.proofs.run.Reads as reads
-use Rattle.slave_run.proofs.run.Lts as lts
-use Rattle.regs.proofs.access.keep.Reads as keep-reads
-use Rattle.regs.proofs.access.perform.Reads as perform-reads
-use Rattle.slave_steps.proofs.advance.Reads as advance-reads
-use Rattle.slave_steps.proofs.next_access.Reads as next-access-reads
 
 abbrev Inv-loop : tie.InvT-loop
 Inv-loop bytes readings log₀ buffer₀ p₀ entries₀ used₀ log buffer p entries used = Going (machine bytes) readings log₀ buffer₀ p₀ log buffer p entries used
@@ -21,55 +16,42 @@ Inv-loop bytes readings log₀ buffer₀ p₀ entries₀ used₀ log buffer p en
 abbrev μ-loop : tie.MeasureT-loop
 μ-loop bytes readings log₀ buffer₀ p₀ entries₀ used₀ log buffer p entries used = length log₀ / 2 - entries
 
--- src/lib.rt:28:5
 loop-holds : tie.Need-loop-holds Inv-loop μ-loop
 loop-holds c = begun (machine _) _ _ _ _ (search needs)
 
--- src/lib.rt:29:13
 next-access-requires : tie.Need-next-access-requires Inv-loop μ-loop
 next-access-requires c κs = search needs
 
--- src/lib.rt:30:15
 perform-requires : tie.Need-perform-requires Inv-loop μ-loop
 perform-requires c κs = search needs
 
--- src/lib.rt:31:32
 enum-known-r : tie.Need-enum-known-r Inv-loop μ-loop
 enum-known-r c = search needs
 
--- src/lib.rt:33:17
 same-length : tie.Need-same-length Inv-loop μ-loop
 same-length c = search needs
 
--- src/lib.rt:33:17
 same-length-2 : tie.Need-same-length-2 Inv-loop μ-loop
 same-length-2 c = search needs
 
--- src/lib.rt:33:17
 returns : tie.Need-returns Inv-loop μ-loop
 returns c = stopped (c .before .before .before .before .before .before .before .before .before .loop .inv) (c .before .before .before .before .before .before .before .before .next-access .ensures) (c .before .before .before .before .before .before .perform .ensures) (c .before .before .r .given .1)
 
--- src/lib.rt:42:28
 enum-known-v : tie.Need-enum-known-v Inv-loop μ-loop
 enum-known-v c = search needs
 
--- src/lib.rt:43:21
 advance-requires : tie.Need-advance-requires Inv-loop μ-loop
 advance-requires c κs = search needs
 
--- src/lib.rt:45:17
 keep-requires : tie.Need-keep-requires Inv-loop μ-loop
 keep-requires c κs = search needs
 
--- src/lib.rt:49:17
 add-entries : tie.Need-add-entries Inv-loop μ-loop
 add-entries c = omega (arith, more (c .before .before .before .before .before .before .before .before .before .before .before .before .before .before .loop .inv) (c .before .before .before .before .before .before .before .before .before .before .before .before .before .next-access .ensures) (c .before .before .before .before .before .before .before .before .before .before .before .perform .ensures) (c .before .before .before .before .before .before .before .v .given .1), c .before .before .before .before .before .before .before .before .before .before .before .before .before .before .loop .inv .fits)
 
--- src/lib.rt:28:5
 loop-less : tie.Need-loop-less Inv-loop μ-loop
 loop-less c = omega (arith, more (c .before .before .before .before .before .before .before .before .before .before .before .before .before .before .loop .inv) (c .before .before .before .before .before .before .before .before .before .before .before .before .before .next-access .ensures) (c .before .before .before .before .before .before .before .before .before .before .before .perform .ensures) (c .before .before .before .before .before .before .before .v .given .1))
 
--- src/lib.rt:28:5
 loop-again : tie.Need-loop-again Inv-loop μ-loop
 loop-again c = turned (c .before .before .before .before .before .before .before .before .before .before .before .before .before .before .loop .inv) (c .before .before .before .before .before .before .before .before .before .before .before .before .before .next-access .ensures) (c .before .before .before .before .before .before .before .before .before .before .before .perform .ensures) (c .before .before .before .before .before .before .before .v .given .1) (ap (λ (x : Moved). x .store) (c .before .before .before .before .before .advance .ensures)) (c .before .before .before .keep .ensures) (ap (λ (x : Moved). x .slave) (c .before .before .before .before .before .advance .ensures))
 

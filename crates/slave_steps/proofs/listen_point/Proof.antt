@@ -1,27 +1,21 @@
+-- `slave_steps::listen_point` meets its contract.
 use borrow.Author.Tests.{eq-eqb, ne-eqb}
 use borrow.Author.Needs.{needs}
 use Rattle.slave_steps.proofs.listen_point.Statement.{statement}
 use Rattle.slave_steps.proofs.listen_point.Tie as tie
-use Rattle.slave_steps.proofs.listen_point.Reads as reads
-use Rattle.slave_steps.proofs.listen_point.Lts as lts
 
--- src/lib.rt:80:43
 enum-told : tie.Need-enum-told
 enum-told c = search needs
 
--- src/lib.rt:81:32
 enum-told-2 : tie.Need-enum-told-2
 enum-told-2 c = search needs
 
--- src/lib.rt:76:1
 returns : tie.Need-returns
 returns c = simp (c .enum-told .given .1)
 
--- src/lib.rt:76:1
 returns-2 : tie.Need-returns-2
 returns-2 c = simp (c .before .enum-told2 .given .1, eq-eqb _ _ (c .if1 .taken))
 
--- src/lib.rt:76:1
 returns-3 : tie.Need-returns-3
 returns-3 c = simp (c .before .enum-told2 .given .1, ne-eqb _ _ (c .if1 .left))
 

@@ -1,61 +1,44 @@
+-- `slave_steps::next_access` meets its contract.
 use borrow.Author.Needs.{needs}
 use Rattle.slave_steps.proofs.next_access.Statement.{statement}
 use Rattle.slave_steps.proofs.next_access.Tie as tie
-use Rattle.slave_steps.proofs.next_access.Reads as reads
-use Rattle.slave_steps.proofs.next_access.Lts as lts
-use Rattle.slave_listen.proofs.next.Reads as listen-next-reads
-use Rattle.slave_steps.proofs.reset.next.Reads as reset-next-reads
-use Rattle.slave_respond.proofs.next.Reads as respond-next-reads
 
--- src/lib.rt:156:24
 enum-known-point : tie.Need-enum-known-point
 enum-known-point c = search needs
 
--- src/lib.rt:157:36
 enum-told : tie.Need-enum-told
 enum-told c = search needs
 
--- src/lib.rt:158:26
 enum-known-point-2 : tie.Need-enum-known-point-2
 enum-known-point-2 c = search needs
 
--- src/lib.rt:158:32
 next-requires : tie.Need-next-requires
 next-requires c κs = search needs
 
--- src/lib.rt:159:26
 enum-known-point-3 : tie.Need-enum-known-point-3
 enum-known-point-3 c = search needs
 
--- src/lib.rt:159:32
 next-requires-2 : tie.Need-next-requires-2
 next-requires-2 c κs = search needs
 
--- src/lib.rt:160:27
 enum-known-point-4 : tie.Need-enum-known-point-4
 enum-known-point-4 c = search needs
 
--- src/lib.rt:160:33
 next-requires-3 : tie.Need-next-requires-3
 next-requires-3 c κs = search needs
 
--- src/lib.rt:151:1
 returns : tie.Need-returns
 returns c = simp (c .before .point .given .1)
 
--- src/lib.rt:151:1
 returns-2 : tie.Need-returns-2
 returns-2 c = simp (c .enum-told .given .1)
 
--- src/lib.rt:151:1
 returns-3 : tie.Need-returns-3
 returns-3 c = simp (c .before .before .point2 .given .1, c .next .ensures)
 
--- src/lib.rt:151:1
 returns-4 : tie.Need-returns-4
 returns-4 c = simp (c .before .before .point3 .given .1, c .next2 .ensures)
 
--- src/lib.rt:151:1
 returns-5 : tie.Need-returns-5
 returns-5 c = simp (c .before .before .point4 .given .1, c .next3 .ensures)
 

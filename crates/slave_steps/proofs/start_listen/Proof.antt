@@ -1,33 +1,24 @@
+-- `slave_steps::start_listen` meets its contract.
 use borrow.Author.Tests.{le-ltb, lt-ltb}
 use borrow.Author.Needs.{needs}
 use Rattle.slave_steps.proofs.start_listen.Statement.{statement}
 use Rattle.slave_steps.proofs.start_listen.Tie as tie
-use Rattle.slave_steps.proofs.start_listen.Reads as reads
-use Rattle.slave_steps.proofs.start_listen.Lts as lts
-use Rattle.slave_steps.proofs.at.Reads as at-reads
-use Rattle.slave_steps.proofs.listen_point.Reads as listen-point-reads
 
--- src/lib.rt:94:9
 at-requires : tie.Need-at-requires
 at-requires c κs = search needs
 
--- src/lib.rt:94:9
 returns : tie.Need-returns
 returns c = simp (lt-ltb _ _ (c .before .if1 .taken), c .at .ensures)
 
--- src/lib.rt:97:15
 cast-at : tie.Need-cast-at
 cast-at c = search needs
 
--- src/lib.rt:97:30
 listen-point-requires : tie.Need-listen-point-requires
 listen-point-requires c κs = search needs
 
--- src/lib.rt:97:5
 at-requires-2 : tie.Need-at-requires-2
 at-requires-2 c κs = search needs
 
--- src/lib.rt:90:1
 returns-2 : tie.Need-returns-2
 returns-2 c = simp (le-ltb _ _ (c .before .before .if1 .left), c .before .listen-point .ensures, c .at2 .ensures)
 

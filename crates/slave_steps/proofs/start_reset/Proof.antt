@@ -1,24 +1,18 @@
+-- `slave_steps::start_reset` meets its contract.
 use borrow.Author.Tests.{eq-eqb, ne-eqb}
 use borrow.Author.Needs.{needs}
 use Rattle.slave_steps.proofs.start_reset.Statement.{statement}
 use Rattle.slave_steps.proofs.start_reset.Tie as tie
-use Rattle.slave_steps.proofs.start_reset.Reads as reads
-use Rattle.slave_steps.proofs.start_reset.Lts as lts
-use Rattle.slave_steps.proofs.at.Reads as at-reads
 
--- src/lib.rt:69:9
 at-requires : tie.Need-at-requires
 at-requires c κs = search needs
 
--- src/lib.rt:71:9
 at-requires-2 : tie.Need-at-requires-2
 at-requires-2 c κs = search needs
 
--- src/lib.rt:65:1
 returns : tie.Need-returns
 returns c = simp (eq-eqb _ _ (c .before .if1 .taken), c .at .ensures)
 
--- src/lib.rt:65:1
 returns-2 : tie.Need-returns-2
 returns-2 c = simp (ne-eqb _ _ (c .before .if1 .left), c .at2 .ensures)
 

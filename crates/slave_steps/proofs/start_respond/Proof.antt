@@ -1,36 +1,27 @@
+-- `slave_steps::start_respond` meets its contract.
 use borrow.Author.Tests.{eq-eqb, le-ltb, lt-ltb, ne-eqb}
 use borrow.Author.Needs.{needs}
 use Rattle.slave_steps.proofs.start_respond.Statement.{statement}
 use Rattle.slave_steps.proofs.start_respond.Tie as tie
-use Rattle.slave_steps.proofs.start_respond.Reads as reads
-use Rattle.slave_steps.proofs.start_respond.Lts as lts
-use Rattle.slave_steps.proofs.at.Reads as at-reads
 
--- src/lib.rt:90:9
 at-requires : tie.Need-at-requires
 at-requires c κs = search needs
 
--- src/lib.rt:90:9
 returns : tie.Need-returns
 returns c = simp (lt-ltb _ _ (c .before .if1 .taken), c .at .ensures)
 
--- src/lib.rt:92:13
 cast-n : tie.Need-cast-n
 cast-n c = search needs
 
--- src/lib.rt:94:9
 at-requires-2 : tie.Need-at-requires-2
 at-requires-2 c κs = search needs
 
--- src/lib.rt:94:9
 returns-2 : tie.Need-returns-2
 returns-2 c = simp (le-ltb _ _ (c .before .before .if1 .left), eq-eqb _ _ (c .before .if2 .taken), c .at2 .ensures)
 
--- src/lib.rt:97:5
 at-requires-3 : tie.Need-at-requires-3
 at-requires-3 c κs = search needs
 
--- src/lib.rt:86:1
 returns-3 : tie.Need-returns-3
 returns-3 c = simp (le-ltb _ _ (c .before .before .if1 .left), ne-eqb _ _ (c .before .if2 .left), c .at3 .ensures)
 

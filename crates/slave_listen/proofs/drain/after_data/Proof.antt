@@ -1,57 +1,40 @@
+-- `slave_listen::drain::after_data` meets its contract.
 use borrow.Author.Tests.{le-ltb, lt-ltb}
 use mathlib.Core.Path.{sym, _∙_}
 use borrow.Author.Needs.{needs}
 use Rattle.slave_listen.proofs.drain.after_data.Statement.{statement}
 use Rattle.slave_listen.proofs.drain.after_data.Tie as tie
-use Rattle.slave_listen.proofs.drain.after_data.Reads as reads
-use Rattle.slave_listen.proofs.drain.after_data.Lts as lts
-use Rattle.regs.proofs.fields.byte_of.Reads as byte-of-reads
-use Rattle.slave_listen.proofs.drain.drain_from.Reads as drain-from-reads
-use Rattle.slave_listen.proofs.drain.is_next.Reads as is-next-reads
-use Rattle.slave_listen.proofs.drain.wide.Reads as wide-reads
-use Rattle.slave_listen.proofs.stay.Reads as stay-reads
 
--- src/drain.rt:70:8
 is-next-requires : tie.Need-is-next-requires
 is-next-requires c κs = search needs
 
--- src/drain.rt:72:27
 byte-of-requires : tie.Need-byte-of-requires
 byte-of-requires c κs = search needs
 
--- src/drain.rt:71:9
 stay-requires : tie.Need-stay-requires
 stay-requires c κs = search needs
 
--- src/drain.rt:71:9
 returns : tie.Need-returns
 returns c = simp (sym (c .before .before .before .is-next .ensures) ∙ c .before .before .if1 .taken, c .before .byte-of .ensures, c .stay .ensures)
 
--- src/drain.rt:78:37
 add-drain-from : tie.Need-add-drain-from
 add-drain-from c = search needs
 
--- src/drain.rt:78:20
 drain-from-requires : tie.Need-drain-from-requires
 drain-from-requires c κs = search needs
 
--- src/drain.rt:80:32
 wide-requires : tie.Need-wide-requires
 wide-requires c κs = search needs
 
--- src/drain.rt:80:46
 byte-of-requires-2 : tie.Need-byte-of-requires-2
 byte-of-requires-2 c κs = search needs
 
--- src/drain.rt:77:9
 returns-2 : tie.Need-returns-2
 returns-2 c = simp (sym (c .before .before .before .before .before .is-next .ensures) ∙ c .before .before .before .before .if1 .left, lt-ltb _ _ (c .before .before .before .if2 .taken), c .before .before .drain-from .ensures, c .before .wide .ensures, c .byte-of2 .ensures)
 
--- src/drain.rt:83:5
 stay-requires-2 : tie.Need-stay-requires-2
 stay-requires-2 c κs = search needs
 
--- src/drain.rt:67:1
 returns-3 : tie.Need-returns-3
 returns-3 c = simp (sym (c .before .before .before .is-next .ensures) ∙ c .before .before .if1 .left, le-ltb _ _ (c .before .if2 .left), c .stay2 .ensures)
 

@@ -1,77 +1,55 @@
+-- `slave_listen::drain::after_level` meets its contract.
 use borrow.Author.Tests.{le-ltb, lt-ltb}
 use mathlib.Core.Path.{sym}
 use borrow.Author.Needs.{needs}
 use Rattle.slave_listen.proofs.drain.after_level.Statement.{statement}
 use Rattle.slave_listen.proofs.drain.after_level.Tie as tie
-use Rattle.slave_listen.proofs.drain.after_level.Reads as reads
-use Rattle.slave_listen.proofs.drain.after_level.Lts as lts
-use Rattle.regs.proofs.fields.level_of.Reads as level-of-reads
-use Rattle.slave_listen.proofs.drain.drain_from.Reads as drain-from-reads
-use Rattle.slave_listen.proofs.drain.wide.Reads as wide-reads
-use Rattle.slave_listen.proofs.settle.Reads as settle-reads
-use Rattle.slave_listen.proofs.stay.Reads as stay-reads
 
--- src/drain.rt:33:33
 enum-told : tie.Need-enum-told
 enum-told c = search needs
 
--- src/drain.rt:33:33
 level-of-requires : tie.Need-level-of-requires
 level-of-requires c κs = search needs
 
--- src/drain.rt:34:41
 drain-from-requires : tie.Need-drain-from-requires
 drain-from-requires c κs = search needs
 
--- src/drain.rt:34:13
 stay-requires : tie.Need-stay-requires
 stay-requires c κs = search needs
 
--- src/drain.rt:36:41
 settle-requires : tie.Need-settle-requires
 settle-requires c κs = search needs
 
--- src/drain.rt:36:13
 stay-requires-2 : tie.Need-stay-requires-2
 stay-requires-2 c κs = search needs
 
--- src/drain.rt:38:23
 enum-known-pending : tie.Need-enum-known-pending
 enum-known-pending c = search needs
 
--- src/drain.rt:40:41
 add-drain-from : tie.Need-add-drain-from
 add-drain-from c = search needs
 
--- src/drain.rt:40:24
 drain-from-requires-2 : tie.Need-drain-from-requires-2
 drain-from-requires-2 c κs = search needs
 
--- src/drain.rt:42:36
 wide-requires : tie.Need-wide-requires
 wide-requires c κs = search needs
 
--- src/drain.rt:45:41
 drain-from-requires-3 : tie.Need-drain-from-requires-3
 drain-from-requires-3 c κs = search needs
 
--- src/drain.rt:45:13
 stay-requires-3 : tie.Need-stay-requires-3
 stay-requires-3 c κs = search needs
 
--- src/drain.rt:29:1
 returns : tie.Need-returns
 returns c = simp (c .before .before .before .before .enum-told .given .1, sym (c .before .before .before .level-of .ensures), lt-ltb _ _ (c .before .before .if1 .taken), c .before .drain-from .ensures, c .stay .ensures)
 
--- src/drain.rt:29:1
 returns-2 : tie.Need-returns-2
 returns-2 c = simp (c .before .before .before .before .enum-told .given .1, sym (c .before .before .before .level-of .ensures), le-ltb _ _ (c .before .before .if1 .left), c .before .settle .ensures, c .stay2 .ensures)
 
--- src/drain.rt:29:1
 returns-3 : tie.Need-returns-3
 returns-3 c = simp (c .before .before .before .before .pending .given .1, lt-ltb _ _ (c .before .before .if2 .taken), c .before .drain-from2 .ensures, c .wide .ensures)
 
--- src/drain.rt:29:1
 returns-4 : tie.Need-returns-4
 returns-4 c = simp (c .before .before .before .before .pending .given .1, le-ltb _ _ (c .before .before .if2 .left), c .before .drain-from3 .ensures, c .stay3 .ensures)
 

@@ -1,15 +1,11 @@
+-- `slave_listen::drain::is_next` meets its contract.
 use borrow.Author.Needs.{needs}
 use Rattle.slave_listen.proofs.drain.is_next.Statement.{statement}
 use Rattle.slave_listen.proofs.drain.is_next.Tie as tie
-use Rattle.slave_listen.proofs.drain.is_next.Reads as reads
-use Rattle.slave_listen.proofs.drain.is_next.Lts as lts
-use Rattle.regs.proofs.fields.is_first_data_byte.Reads as is-first-data-byte-reads
 
--- src/drain.rt:64:21
 is-first-data-byte-requires : tie.Need-is-first-data-byte-requires
 is-first-data-byte-requires c κs = search needs
 
--- src/drain.rt:61:1
 returns : tie.Need-returns
 returns c = simp (c .is-first-data-byte .ensures)
 

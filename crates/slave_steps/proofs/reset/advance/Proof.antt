@@ -1,94 +1,71 @@
+-- `slave_steps::reset::advance` meets its contract.
 use borrow.Author.Needs.{needs}
 use Rattle.slave_steps.proofs.reset.advance.Statement.{statement}
 use Rattle.slave_steps.proofs.reset.advance.Tie as tie
-use Rattle.slave_steps.proofs.reset.advance.Reads as reads
-use Rattle.slave_steps.proofs.reset.advance.Lts as lts
 
--- src/reset.rt:59:32
 enum-told : tie.Need-enum-told
 enum-told c = search needs
 
--- src/reset.rt:60:28
 enum-told-2 : tie.Need-enum-told-2
 enum-told-2 c = search needs
 
--- src/reset.rt:61:28
 enum-told-3 : tie.Need-enum-told-3
 enum-told-3 c = search needs
 
--- src/reset.rt:62:35
 enum-told-4 : tie.Need-enum-told-4
 enum-told-4 c = search needs
 
--- src/reset.rt:63:39
 enum-told-5 : tie.Need-enum-told-5
 enum-told-5 c = search needs
 
--- src/reset.rt:64:29
 enum-told-6 : tie.Need-enum-told-6
 enum-told-6 c = search needs
 
--- src/reset.rt:65:29
 enum-told-7 : tie.Need-enum-told-7
 enum-told-7 c = search needs
 
--- src/reset.rt:66:32
 enum-told-8 : tie.Need-enum-told-8
 enum-told-8 c = search needs
 
--- src/reset.rt:67:31
 enum-told-9 : tie.Need-enum-told-9
 enum-told-9 c = search needs
 
--- src/reset.rt:68:33
 enum-told-10 : tie.Need-enum-told-10
 enum-told-10 c = search needs
 
--- src/reset.rt:69:29
 enum-told-11 : tie.Need-enum-told-11
 enum-told-11 c = search needs
 
--- src/reset.rt:55:1
 returns : tie.Need-returns
 returns c = search needs
 
--- src/reset.rt:55:1
 returns-2 : tie.Need-returns-2
 returns-2 c = search needs
 
--- src/reset.rt:55:1
 returns-3 : tie.Need-returns-3
 returns-3 c = simp (c .enum-told3 .given .1)
 
--- src/reset.rt:55:1
 returns-4 : tie.Need-returns-4
 returns-4 c = search needs
 
--- src/reset.rt:55:1
 returns-5 : tie.Need-returns-5
 returns-5 c = search needs
 
--- src/reset.rt:55:1
 returns-6 : tie.Need-returns-6
 returns-6 c = search needs
 
--- src/reset.rt:55:1
 returns-7 : tie.Need-returns-7
 returns-7 c = search needs
 
--- src/reset.rt:55:1
 returns-8 : tie.Need-returns-8
 returns-8 c = search needs
 
--- src/reset.rt:55:1
 returns-9 : tie.Need-returns-9
 returns-9 c = search needs
 
--- src/reset.rt:55:1
 returns-10 : tie.Need-returns-10
 returns-10 c = search needs
 
--- src/reset.rt:55:1
 returns-11 : tie.Need-returns-11
 returns-11 c = search needs
 
