@@ -3,6 +3,7 @@ pub mod Bits
 pub mod Table
 pub mod Unroll
 pub mod Refine
+pub mod Lift
 pub mod Going
 pub mod Enough
 pub mod Spent

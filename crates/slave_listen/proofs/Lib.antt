@@ -1,0 +1,2 @@
+-- The machine does what `listen` does.
+pub mod Listens

@@ -1,0 +1,2 @@
+-- The machine of `listen`.
+pub mod Machine

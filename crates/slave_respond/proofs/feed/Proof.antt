@@ -1,0 +1,55 @@
+-- `slave_respond::feed` meets its contract.
+use borrow.Author.Tests.{le-ltb, lt-ltb}
+use mathlib.Core.Path.{sym, _∙_}
+use borrow.Author.Needs.{needs}
+use Rattle.slave_respond.proofs.feed.Statement.{statement}
+use Rattle.slave_respond.proofs.feed.Tie as tie
+
+chunk-end-requires : tie.Need-chunk-end-requires
+chunk-end-requires c κs = search needs
+
+on-requires : tie.Need-on-requires
+on-requires c κs = search needs
+
+returns : tie.Need-returns
+returns c = simp (lt-ltb _ _ (c .before .before .if1 .taken), c .before .chunk-end .ensures, c .on .ensures)
+
+has-rx-done-requires : tie.Need-has-rx-done-requires
+has-rx-done-requires c κs = search needs
+
+on-requires-2 : tie.Need-on-requires-2
+on-requires-2 c κs = search needs
+
+returns-2 : tie.Need-returns-2
+returns-2 c = simp (le-ltb _ _ (c .before .before .before .if1 .left), sym (c .before .before .has-rx-done .ensures) ∙ c .before .if2 .taken, c .on2 .ensures)
+
+is-hungry-requires : tie.Need-is-hungry-requires
+is-hungry-requires c κs = search needs
+
+more-requires : tie.Need-more-requires
+more-requires c κs = search needs
+
+returns-3 : tie.Need-returns-3
+returns-3 c = simp (le-ltb _ _ (c .before .before .before .before .before .if1 .left), sym (c .before .before .before .before .has-rx-done .ensures) ∙ c .before .before .before .if2 .left, sym (c .before .before .is-hungry .ensures) ∙ c .before .if3 .taken, c .more .ensures)
+
+on-requires-3 : tie.Need-on-requires-3
+on-requires-3 c κs = search needs
+
+returns-4 : tie.Need-returns-4
+returns-4 c = simp (le-ltb _ _ (c .before .before .before .before .before .if1 .left), sym (c .before .before .before .before .has-rx-done .ensures) ∙ c .before .before .before .if2 .left, sym (c .before .before .is-hungry .ensures) ∙ c .before .if3 .left, c .on3 .ensures)
+
+pub feed-spec : {M : Type 1} → statement M
+feed-spec =
+    tie.close
+    (tie.spec
+    chunk-end-requires
+    on-requires
+    returns
+    has-rx-done-requires
+    on-requires-2
+    returns-2
+    is-hungry-requires
+    more-requires
+    returns-3
+    on-requires-3
+    returns-4)

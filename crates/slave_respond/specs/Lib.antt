@@ -1,0 +1,2 @@
+-- The machine of a response.
+pub mod Machine

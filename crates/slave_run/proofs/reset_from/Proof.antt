@@ -1,0 +1,44 @@
+-- `slave_run::reset_from` meets its contract.
+use Rattle.regs.proofs.Refine.{leaves-state}
+use Rattle.slave_steps.proofs.Resets.{reset-agrees}
+use Rattle.slave_steps.specs.Machine.{machine, start-reset}
+use Rattle.slave_state.specs.I2cSlave.{reset-call}
+use mathlib.Core.List.{[]}
+use denote.Ref.{now}
+use borrow.Author.Needs.{needs}
+use Rattle.slave_run.proofs.reset_from.Statement.{statement}
+use Rattle.slave_run.proofs.reset_from.Tie as tie
+
+start-reset-requires : tie.Need-start-reset-requires
+start-reset-requires c κs = search needs
+
+slice-aggregate-run : tie.Need-slice-aggregate-run
+slice-aggregate-run c = search needs
+
+slice-aggregate-run-2 : tie.Need-slice-aggregate-run-2
+slice-aggregate-run-2 c = search needs
+
+run-requires : tie.Need-run-requires
+run-requires c κs = search needs
+
+same-length : tie.Need-same-length
+same-length c = search needs
+
+returns : tie.Need-returns
+returns c =
+    let d = c .before .before .before in
+    let p = c .before .before .before .before .before .before .before in
+    let s = c .before .before .before .before .before .before .before .before .before .before in
+    leaves-state (machine []) (start-reset (s .args .state) (s .args .address) (s .args .general-call)) (reset-call (s .args .address) (s .args .general-call)) (now (s .args .readings)) (now (s .args .log)) _ [] _ (d .run .result .state) (d .run .result .ran)
+    (reset-agrees [] (s .args .address) (s .args .general-call) (s .args .state) []) (rw (p .start-reset .ensures) at (d .run .ensures))
+
+pub reset-from-spec : {M : Type 1} → statement M
+reset-from-spec =
+    tie.close
+    (tie.spec
+    start-reset-requires
+    slice-aggregate-run
+    slice-aggregate-run-2
+    run-requires
+    same-length
+    returns)

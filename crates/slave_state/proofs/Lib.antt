@@ -1,0 +1,8 @@
+-- What holds of the definitions.
+pub mod Small
+pub mod Corners
+pub mod Stores
+pub mod Waits
+pub mod Responses
+pub mod Sends
+pub mod Legals
