@@ -1,0 +1,19 @@
+-- THE THEOREM: every row of document 01's examples holds. Each is computed.
+use mathlib.Core.Path.{refl}
+use Rattle.regs.specs.Fields.{set-field}
+use Rattle.regs.specs.Program.{outcome, turns, rounds}
+use Rattle.regs.specs.Log.{Each}
+use Rattle.bus.specs.Bus.{written-to}
+use Rattle.clock.specs.SetConfig.{set-config, period, lcnt-of, hcnt-of, hold-below-1-mhz, hold-at-1-mhz, spklen}
+use Rattle.master.specs.Driver.{setup, tx-fifo-capacity, tx-fifo-full, rx-fifo-len, read-and-clear-abort-reason}
+use Rattle.master.specs.Blocking.{read-blocking-bytes, read-blocking-internal, write-blocking-bytes, write-blocking-internal}
+use Rattle.master.specs.Async.{wait-stop-det, queue-batch, fetch-bytes, read-async-internal, fill, write-async-internal}
+use Rattle.master.specs.Transfer.{blocking-read, blocking-write, read-async, write-async}
+use Rattle.examples.specs.Rows.{Holds, rows}
+
+pub examples : Each Holds rows
+unfolding set-field outcome turns rounds written-to set-config period lcnt-of hcnt-of hold-below-1-mhz hold-at-1-mhz spklen setup tx-fifo-capacity tx-fifo-full rx-fifo-len read-and-clear-abort-reason
+    read-blocking-bytes read-blocking-internal write-blocking-bytes write-blocking-internal wait-stop-det queue-batch fetch-bytes read-async-internal fill write-async-internal blocking-read blocking-write read-async write-async
+examples =
+    ((refl, refl), ((refl, refl), ((refl, refl), (refl, ((refl, refl), (refl, ((refl, refl), ((refl, refl), (refl,
+    ((refl, refl), ((refl, refl), ((refl, refl), ((refl, refl), (refl, (refl, (refl, (refl, tt)))))))))))))))))

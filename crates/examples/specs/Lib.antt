@@ -1,0 +1,2 @@
+-- Document 01's examples as rows.
+pub mod Rows
