@@ -2,3 +2,4 @@
 pub mod Agrees
 pub mod Counted
 pub mod Accepted
+pub mod Bounds

@@ -14,6 +14,31 @@ use Rattle.examples.specs.Rows.{Holds, rows}
 pub examples : Each Holds rows
 unfolding set-field outcome turns rounds written-to set-config period lcnt-of hcnt-of hold-below-1-mhz hold-at-1-mhz spklen setup tx-fifo-capacity tx-fifo-full rx-fifo-len read-and-clear-abort-reason
     read-blocking-bytes read-blocking-internal write-blocking-bytes write-blocking-internal wait-stop-det queue-batch fetch-bytes read-async-internal fill write-async-internal blocking-read blocking-write read-async write-async
-examples =
-    ((refl, refl), ((refl, refl), ((refl, refl), (refl, ((refl, refl), (refl, ((refl, refl), ((refl, refl), (refl,
-    ((refl, refl), ((refl, refl), ((refl, refl), ((refl, refl), (refl, (refl, (refl, (refl, tt)))))))))))))))))
+examples = (
+  (refl, refl),
+  (
+    (refl, refl),
+    (
+      (refl, refl),
+      (
+        refl,
+        (
+          (refl, refl),
+          (
+            refl,
+            (
+              (refl, refl),
+              (
+                (refl, refl),
+                (
+                  refl,
+                  ((refl, refl), ((refl, refl), ((refl, refl), ((refl, refl), (refl, (refl, (refl, (refl, tt)))))))),
+                ),
+              ),
+            ),
+          ),
+        ),
+      ),
+    ),
+  ),
+)

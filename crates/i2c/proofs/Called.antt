@@ -47,7 +47,7 @@ second true b e = e
 second false b e = absurd (true≢false (sym e))
 
 -- what the test of the limits says of kinds and lengths
-all-left : (mode : Mode) (address : ℕ) (kinds lengths bytes : List ℕ) (room : ℕ) → lists kinds lengths (length bytes) room ≡ true → (p : Point)
+pub all-left : (mode : Mode) (address : ℕ) (kinds lengths bytes : List ℕ) (room : ℕ) → lists kinds lengths (length bytes) room ≡ true → (p : Point)
     → Left kinds lengths bytes (with-point (started mode false address kinds) p) kinds lengths
 all-left mode address kinds lengths bytes room q p =
     let q₁ = second (eqb (length kinds) (length lengths)) _ q in

@@ -11,3 +11,4 @@ pub mod Listed
 pub mod Transfers
 pub mod Called
 pub mod Sums
+pub mod Bounds

@@ -1,4 +1,4 @@
--- How often a loop may turn does not show in an outcome, once that is more than the log has room for: `enough`.
+-- How often a loop may turn does not show in an outcome, once that is more than the log has room for: `enough-from`.
 use Prim.Native.Nat.{ℕ, zero, suc, _<_, _≤_}
 use mathlib.Core.List.{List, [], _∷_}
 use mathlib.Core.Path.{_≡_, sym, ap, _∙_}
@@ -50,8 +50,8 @@ module _ (M : Machine) where
   did-is zero s cut b c z g rs = absurd g
   did-is (suc m) s cut b c z g rs = absurd g
 
-  -- of a program that a machine agrees with
-  pub enough : (s : M .S) (p : Program (M .K) Answer Answer) (b : List ℕ) → ((m n : ℕ) → m ≤ n → Agree M m s b b (M .state s) (p n ends)) → (room n : ℕ) → room < n → (rs : List ℕ)
-      → outcome Answered LogFull OutOfReadings (p n ends) room rs b (M .state s) ≡ outcome Answered LogFull OutOfReadings (p (suc room) ends) room rs b (M .state s)
-  enough s p b agrees room n h rs =
-      sym (did-is room s (p n ends) b b (M .state s) (agrees (suc room) n h .steps) rs) ∙ did-is room s (p (suc room) ends) b b (M .state s) (agrees (suc room) (suc room) (le-refl (suc room)) .steps) rs
+  -- of a program that a machine agrees with, from a state z
+  pub enough-from : (s : M .S) (p : Program (M .K) Answer Answer) (b : List ℕ) (z : M .K) → ((m n : ℕ) → m ≤ n → Agree M m s b b z (p n ends)) → (room n : ℕ) → room < n → (rs : List ℕ)
+      → outcome Answered LogFull OutOfReadings (p n ends) room rs b z ≡ outcome Answered LogFull OutOfReadings (p (suc room) ends) room rs b z
+  enough-from s p b z agrees room n h rs =
+      sym (did-is room s (p n ends) b b z (agrees (suc room) n h .steps) rs) ∙ did-is room s (p (suc room) ends) b b z (agrees (suc room) (suc room) (le-refl (suc room)) .steps) rs

@@ -7,6 +7,7 @@ pub mod Lift
 pub mod Going
 pub mod Enough
 pub mod Spent
+pub mod Bounded
 pub mod Legal
 pub mod LegalExample
 pub mod RoundTrip

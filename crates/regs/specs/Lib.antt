@@ -4,4 +4,5 @@ pub mod Fields
 pub mod Program
 pub mod Answers
 pub mod Log
+pub mod Bounds
 pub mod Machine

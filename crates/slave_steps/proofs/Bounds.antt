@@ -1,17 +1,14 @@
 -- Each call is bounded by its readings and its log alone: laws of any machine that agrees with a program, at the five calls.
-use Prim.Native.Nat.{ℕ, suc, _/_, _≤_}
-use native.Mathlib.Nat.{le-refl}
+use Prim.Native.Nat.{ℕ, _≤_}
 use mathlib.Core.Bool.{Bool}
 use mathlib.Core.List.{List, []}
-use lib.ListN.{length}
 use Rattle.regs.specs.Program.{ends}
 use Rattle.regs.specs.declared.answers.Answer.{Answer}
 use Rattle.regs.proofs.Refine.{Agree}
-use Rattle.regs.proofs.Enough.{enough}
-use Rattle.regs.proofs.Spent.{full-only, dry-only}
+use Rattle.regs.specs.Bounds.{Bounded}
+use Rattle.regs.proofs.Bounded.{bounded-by}
 use Rattle.slave_state.specs.I2cSlave.{Driver, reset-call, listen-call, respond-to-read-call, respond-till-stop-call, respond-and-fill-call}
 use Rattle.slave_state.specs.declared.SlaveState.{SlaveState}
-use Rattle.slave_steps.specs.Bounds.{Bounded}
 use Rattle.slave_steps.specs.Machine.{slave, machine}
 use Rattle.slave_steps.specs.declared.Point.{Point}
 use Rattle.slave_steps.proofs.Resets.{reset-agrees}
@@ -19,16 +16,7 @@ use Rattle.slave_steps.proofs.Agrees.{listen-agrees, respond-agrees, re
 
 bounded : (bytes : List ℕ) (p : Driver Answer) (size : ℕ) (point : SlaveState → Point)
     → ((me : SlaveState) (b : List ℕ) (m n : ℕ) → m ≤ n → Agree (machine bytes) m (slave me size (point me)) b b me (p n ends)) → Bounded p
-bounded bytes p size point agrees =
-    record {
-      turns = λ room n h rs b me. enough (machine bytes) (slave me size (point me)) p b (agrees me b) room n h rs;
-      full = λ log rs b me.
-          full-only (machine bytes) (length log / 2) (slave me size (point me)) (p (suc (length log / 2)) ends) b b me
-          (agrees me b (suc (length log / 2)) (suc (length log / 2)) (le-refl (suc (length log / 2))) .steps) rs;
-      dry = λ log rs b me.
-          dry-only (machine bytes) (length log / 2) (slave me size (point me)) (p (suc (length log / 2)) ends) b b me
-          (agrees me b (suc (length log / 2)) (suc (length log / 2)) (le-refl (suc (length log / 2))) .steps) rs;
-    }
+bounded bytes p size point agrees = bounded-by (machine bytes) p (λ me. slave me size (point me)) agrees
 
 pub bounded-reset : (address : ℕ) (general-call : Bool) → Bounded (reset-call address general-call)
 bounded-reset address general-call = bounded [] (reset-call address general-call) _ _ (reset-agrees [] address general-call)

@@ -1,3 +1,2 @@
--- The slave's machine, and what bounds a call.
+-- The slave's machine.
 pub mod Machine
-pub mod Bounds

@@ -24,7 +24,7 @@ returns c =
     let p = c .before .before .before .before in
     let s = c .before .before .before .before .before .before .before in
     leaves machine (p .start .result) (set-config (s .args .frequency) (s .args .clk)) (now (s .args .readings)) (now (s .args .log)) _ [] [] tt (d .drive .result)
-    (λ m k h. rw (p .start .ensures) (set-config-agrees (s .args .frequency) (s .args .clk) m k h)) (d .drive .ensures)
+    (λ m k h. rw (p .start .ensures) (set-config-agrees (s .args .frequency) (s .args .clk) m k h [])) (d .drive .ensures)
 
 pub set-config-spec : {M : Type 1} → statement M
 set-config-spec = tie.close (tie.spec start-requires drive-requires same-length returns)
