@@ -1,6 +1,6 @@
--- `i2c_slave::respond_to_read` meets its contract: a walk of its MIR, by hand. The state's borrow is opened, the state is copied whole and passed to `respond_to_read_from` with the other parameters, the new state is stored whole, and the borrow is closed at it.
--- What the other parameters own goes to `respond_to_read_from` for good. All that the proof knows of `respond_to_read_from` is that it meets its contract, and nothing of the state's fields.
--- Assumes nothing.
+-- `i2c_slave::respond_to_read` meets its contract: a walk of its MIR, by hand, since the borrow checker does not cover a reference to a struct.
+-- The state's borrow is opened, the state is copied whole and passed to `respond_to_read_from` with the other parameters, the new state is stored whole, and the
+-- borrow is closed at it. All that the proof knows of `respond_to_read_from` is that it meets its contract, and nothing of the state's fields.
 use mathlib.Core.Path.{_≡_, refl, ap}
 use mathlib.Core.Bool.{Bool}
 use Prim.Native.Nat.{ℕ, _<_, _^_}

@@ -1,6 +1,6 @@
--- `i2c_slave::reset` meets its contract: a walk of its MIR, by hand. The state's borrow is opened, the state is copied whole and passed to `reset_from` with the other parameters, the new state is stored whole, and the borrow is closed at it.
--- What the other parameters own goes to `reset_from` for good. All that the proof knows of `reset_from` is that it meets its contract, and nothing of the state's fields.
--- Assumes nothing.
+-- `i2c_slave_listen::reset` meets its contract: a walk of its MIR, by hand, since the borrow checker does not cover a reference to a struct.
+-- The state's borrow is opened, the state is copied whole and passed to `reset_from` with the other parameters, the new state is stored whole, and the
+-- borrow is closed at it. All that the proof knows of `reset_from` is that it meets its contract, and nothing of the state's fields.
 use mathlib.Core.Path.{_≡_, refl, ap}
 use mathlib.Core.Bool.{Bool}
 use Prim.Native.Nat.{ℕ, _<_, _^_}
@@ -59,10 +59,10 @@ use Rattle.slave_run.proofs.reset_from as callee
 use Rattle.slave_run.proofs.reset_from.Symbol as callee-def
 use Rattle.slave_run.proofs.reset_from.Symbol.{name as #callee}
 use Rattle.slave_run.proofs.reset_from.Met as callee-thm
-use Rattle.i2c_slave.proofs.reset.Key.{name as #me}
-use Rattle.i2c_slave.proofs.reset as me
-use Rattle.i2c_slave.proofs.reset.Statement as stated
-use Rattle.i2c_slave.proofs.reset.Code as code
+use Rattle.i2c_slave_listen.proofs.reset.Key.{name as #me}
+use Rattle.i2c_slave_listen.proofs.reset as me
+use Rattle.i2c_slave_listen.proofs.reset.Statement as stated
+use Rattle.i2c_slave_listen.proofs.reset.Code as code
 
 abbrev stayed : Stays (me.ended .signature .params) (me.ended .kept)
 stayed = (stay-ref (0 ∷ []) tt (plain (λ _. ST.the-row)), (stay-dropped (plain (λ _. u16)) yes, (stay-dropped (plain (λ _. bool)) yes, (stay-dropped (shrSliceOf (1 ∷ []) tt (plain (λ _. u32))) yes, (gave-slice (2 ∷ []) tt (plain (λ _. u32)), tt)))))
