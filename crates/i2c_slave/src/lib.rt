@@ -1,34 +1,12 @@
-// The slave driver's calls, in the Rust's names: thin wrappers over those of `slave_run`, to which the state is lent.
+// The slave driver's calls in the Rust's names, to which the state is lent: thin wrappers over the calls by value of `slave_run`.
+pub use i2c_slave_listen::listen;
+pub use i2c_slave_listen::reset;
 use regs::access::Ran;
-use slave_state::SlaveState;
+pub use slave_state::Pending;
+pub use slave_state::SlaveState;
 ghost use mathlib.Core.List.{[]};
-ghost use lib.ListN.{length};
-ghost use Rattle.regs.specs.Log.{LeavesState, LeavesAll, expected};
-ghost use Rattle.slave_state.specs.I2cSlave.{reset-call, listen-call, respond-to-read-call, respond-till-stop-call, respond-and-fill-call};
-
-// `reset`: the state is lent, and updated there.
-pub fn reset(
-    s: &mut SlaveState,
-    address: u16,
-    general_call: bool,
-    readings: &[u32],
-    log: &mut [u32],
-) -> Ran
-    ensures { λ r. ⌜ LeavesState (expected (reset-call address «general_call») (now (log .entry)) (now (readings .entry)) [] (now (s .entry))) (now (log .entry)) (now (log .exit)) r (now (s .exit)) ⌝ }
-{
-    let n = slave_run::reset_from(*s, address, general_call, readings, log);
-    *s = n.state;
-    n.ran
-}
-
-// `listen`: the state is lent, and updated there.
-pub fn listen(s: &mut SlaveState, buffer: &mut [u8], readings: &[u32], log: &mut [u32]) -> Ran
-    ensures { λ r. ⌜ LeavesAll (expected (listen-call (length (now (buffer .entry)))) (now (log .entry)) (now (readings .entry)) (now (buffer .entry)) (now (s .entry))) (now (log .entry)) (now (log .exit)) (now (buffer .exit)) r (now (s .exit)) ⌝ }
-{
-    let n = slave_run::listen_from(*s, buffer, readings, log);
-    *s = n.state;
-    n.ran
-}
+ghost use Rattle.regs.specs.Log.{LeavesState, expected};
+ghost use Rattle.slave_state.specs.I2cSlave.{respond-to-read-call, respond-till-stop-call, respond-and-fill-call};
 
 // `respond_to_read`, of a state that is lent.
 pub fn respond_to_read(s: &mut SlaveState, bytes: &[u8], readings: &[u32], log: &mut [u32]) -> Ran
