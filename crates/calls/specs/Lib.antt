@@ -1,0 +1,2 @@
+-- What a call of the replay leaves and prints.
+pub mod Calls

@@ -1,0 +1,19 @@
+-- `frames::is_begun` meets its contract.
+use borrow.Author.Needs.{needs}
+use Rattle.frames.proofs.is_begun.Statement.{statement}
+use Rattle.frames.proofs.is_begun.Tie as tie
+
+enum-told : tie.Need-enum-told
+enum-told c = search needs
+
+enum-known-p : tie.Need-enum-known-p
+enum-known-p c = search needs
+
+returns : tie.Need-returns
+returns c = search needs
+
+returns-2 : tie.Need-returns-2
+returns-2 c = simp (c .before .p .given .1)
+
+pub is-begun-spec : {M : Type 1} → statement M
+is-begun-spec = tie.close (tie.spec enum-told enum-known-p returns returns-2)

@@ -1,0 +1,4 @@
+-- What the proofs of the functions cite.
+pub mod Appends
+pub mod Numbers
+pub mod Entries

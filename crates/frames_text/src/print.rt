@@ -1,0 +1,114 @@
+// Answers as text. Each function puts its text at `at` of a lent buffer and returns where the text ends.
+use super::digits::char;
+use regs::access::Entry;
+use regs::answers::Reply;
+ghost use mathlib.Core.Path.{_≡_};
+ghost use mathlib.Core.List.{[], _∷_};
+ghost use Prim.Native.Nat.{_+_, _*_, _<_, _≤_};
+ghost use lib.ListN.{length, take};
+ghost use Rattle.regs.specs.Log.{decode};
+ghost use Rattle.frames_text.specs.Text.{LF, hex2, hex4, hex8};
+ghost use Rattle.frames_text.specs.Print.{plain-frame, word-frame, entry-text, log-text, answer-text, reply-text};
+ghost use Rattle.frames_text.specs.Appended.{Appended};
+
+fn push(out: &mut [u8], at: usize, c: u8) -> usize
+    requires { ⌜ at < length (now out) ⌝ }
+    ensures { λ r. ⌜ Appended (now (out .entry)) at (c ∷ []) 1 (now (out .exit)) r ⌝ }
+{
+    out[at] = c;
+    at + 1
+}
+
+fn push2(out: &mut [u8], at: usize, n: u32) -> usize
+    requires { ⌜ at + 2 ≤ length (now out) ⌝ }
+    ensures { λ r. ⌜ Appended (now (out .entry)) at (hex2 n) 2 (now (out .exit)) r ⌝ }
+{
+    let high = push(out, at, char(n / 16 % 16));
+    push(out, high, char(n % 16))
+}
+
+fn push4(out: &mut [u8], at: usize, n: u32) -> usize
+    requires { ⌜ at + 4 ≤ length (now out) ⌝ }
+    ensures { λ r. ⌜ Appended (now (out .entry)) at (hex4 n) 4 (now (out .exit)) r ⌝ }
+{
+    let high = push2(out, at, n / 256 % 256);
+    push2(out, high, n % 256)
+}
+
+fn push8(out: &mut [u8], at: usize, n: u32) -> usize
+    requires { ⌜ at + 8 ≤ length (now out) ⌝ }
+    ensures { λ r. ⌜ Appended (now (out .entry)) at (hex8 n) 8 (now (out .exit)) r ⌝ }
+{
+    let high = push4(out, at, n / 65536 % 65536);
+    push4(out, high, n % 65536)
+}
+
+fn push_plain(out: &mut [u8], at: usize, kind: u32) -> usize
+    requires { ⌜ at + 13 ≤ length (now out) ⌝ }
+    ensures { λ r. ⌜ Appended (now (out .entry)) at (plain-frame kind) 13 (now (out .exit)) r ⌝ }
+{
+    let end = push2(out, at, kind);
+    push(out, end, 10)
+}
+
+fn push_word(out: &mut [u8], at: usize, kind: u32, byte: u32, word: u32) -> usize
+    requires { ⌜ at + 13 ≤ length (now out) ⌝ }
+    ensures { λ r. ⌜ Appended (now (out .entry)) at (word-frame kind byte word) 13 (now (out .exit)) r ⌝ }
+{
+    let a = push2(out, at, kind);
+    let b = push2(out, a, byte);
+    let c = push8(out, b, word);
+    push(out, c, 10)
+}
+
+fn push_entry(out: &mut [u8], at: usize, e: Entry) -> usize
+    requires { ⌜ at + 13 ≤ length (now out) ⌝ }
+    ensures { λ r. ⌜ Appended (now (out .entry)) at (entry-text e) 13 (now (out .exit)) r ⌝ }
+{
+    match e {
+        Entry::Read(r, v) => push_word(out, at, 0x30, r as u32, v),
+        Entry::Write(r, v) => push_word(out, at, 0x31, r as u32, v),
+        Entry::Marked(x) => {
+            if x == regs::PENDING {
+                return push_plain(out, at, 0x32);
+            }
+            push_plain(out, at, 0x33)
+        }
+    }
+}
+
+// The first n entries of a log.
+pub fn push_log(out: &mut [u8], at: usize, log: &[u32], n: usize) -> usize
+    requires { ⌜ (at + 13 * n ≤ length (now out)) × (n * 2 ≤ length (now log)) ⌝ }
+    ensures { λ r. ⌜ Appended (now (out .entry)) at (log-text (decode (take (n * 2) (now (log .entry))))) (13 * n) (now (out .exit)) r ⌝ }
+{
+    let mut end = at;
+    let mut i: usize = 0;
+    while i < n {
+        let k = i * 2;
+        let e = regs::access::entry_of(log[k], log[k + 1]);
+        end = push_entry(out, end, e);
+        i += 1;
+    }
+    end
+}
+
+// A number of document 01's table and its detail.
+pub fn push_answer(out: &mut [u8], at: usize, number: u32, detail: u32) -> usize
+    requires { ⌜ at + 13 ≤ length (now out) ⌝ }
+    ensures { λ r. ⌜ Appended (now (out .entry)) at (answer-text number detail) 13 (now (out .exit)) r ⌝ }
+{
+    push_word(out, at, 0x35, number, detail)
+}
+
+pub fn push_reply(out: &mut [u8], at: usize, r: Reply) -> usize
+    requires { ⌜ at + 13 ≤ length (now out) ⌝ }
+    ensures { λ n. ⌜ Appended (now (out .entry)) at (reply-text r) 13 (now (out .exit)) n ⌝ }
+{
+    push_answer(
+        out,
+        at,
+        regs::answers::number_of(r) as u32,
+        regs::answers::detail_of(r),
+    )
+}

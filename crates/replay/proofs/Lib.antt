@@ -1,0 +1,2 @@
+-- What the proofs of the loops cite.
+pub mod Fine
