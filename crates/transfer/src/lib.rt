@@ -2,6 +2,7 @@
 pub mod points; // where a transfer stands
 mod words; // the access at each point
 mod moves; // where a reading leads
+mod queues; // and in the rounds of async transfers
 
 use moves::step_of;
 use points::Mode;

@@ -1,11 +1,10 @@
-// Where a reading leads, for the points of each Rust function.
+// Where a reading leads, for the points of each Rust function; the rounds of async transfers are in `queues`.
 use super::points::AbortPoint;
 use super::points::Caller;
 use super::points::FillPoint;
 use super::points::Point;
 use super::points::Poll;
 use super::points::ReadPoint;
-use super::points::Round;
 use super::points::RoundPoint;
 use super::points::SetupPoint;
 use super::points::Step;
@@ -13,7 +12,9 @@ use super::points::StopPoint;
 use super::points::Tried;
 use super::points::WaitPoint;
 use super::points::WritePoint;
-use super::words::difference;
+use super::queues::after_fill;
+use super::queues::after_round;
+use super::queues::batch_read;
 use super::words::less;
 use regs::answers::AbortReason;
 use regs::answers::Answer;
@@ -28,10 +29,9 @@ use regs::fields::with_m_stop_det;
 use regs::fields::with_m_tx_abrt;
 use regs::fields::with_m_tx_empty;
 ghost use mathlib.Core.Path.{_≡_};
-ghost use mathlib.Core.Bool as Bool;
-ghost use Prim.Native.Nat.{_-_, min};
+ghost use Prim.Native.Nat.{min};
 ghost use Rattle.master.specs.Driver.{reason-of};
-ghost use Rattle.transfer.specs.Machine.{wait-stop, try-step, places, capacity, level-step, closes, stop-returned, queued, next-turn, fetching, filling, after-index, returned, step-setup, step-abort, room-step, step-read, step-write, batch-step, step-round, free-step, full-step, step-fill, mask-for, poll-point, step-wait, step-stop, step-of};
+ghost use Rattle.transfer.specs.Machine.{wait-stop, try-step, places, capacity, level-step, closes, stop-returned, returned, step-setup, step-abort, room-step, step-read, step-write, mask-for, poll-point, step-wait, step-stop, step-of};
 
 // What TXFLR says of the transmit FIFO: its free places, or a level that it does not have.
 pub enum Capacity {
@@ -48,13 +48,13 @@ fn places_of(n: u8) -> Capacity
     Capacity::Places((16 - n) as u16)
 }
 
-fn capacity_of(v: u32) -> Capacity
+pub fn capacity_of(v: u32) -> Capacity
     ensures { λ r. ⌜ r ≡ capacity v ⌝ }
 {
     places_of(level_of(v))
 }
 
-fn too_high(n: u8) -> Step
+pub fn too_high(n: u8) -> Step
     ensures { λ r. ⌜ r ≡ Step.Go (Point.Finished (Answer.Refused (Refusal.TxLevelOutOfRange n))) ⌝ }
 {
     Step::Go(Point::Finished(Answer::Refused(Refusal::TxLevelOutOfRange(n))))
@@ -78,14 +78,14 @@ fn reason(w: u32) -> AbortReason
     }
 }
 
-fn smaller(a: u16, b: u16) -> u16
+pub fn smaller(a: u16, b: u16) -> u16
     ensures { λ r. ⌜ r ≡ min a b ⌝ }
 {
     if a < b { a } else { b }
 }
 
 // `wait_stop_det`: an abort or a wanted STOP is waited for.
-fn wait_for_stop(send_stop: bool, had: Tried) -> Step
+pub fn wait_for_stop(send_stop: bool, had: Tried) -> Step
     ensures { λ r. ⌜ r ≡ wait-stop «send_stop» had ⌝ }
 {
     match had {
@@ -103,12 +103,6 @@ fn wait_for_stop(send_stop: bool, had: Tried) -> Step
     }
 }
 
-fn one_more(len: u16, i: u16) -> u16
-    ensures { λ r. ⌜ r ≡ after-index len i ⌝ }
-{
-    if i < len { i + 1 } else { i }
-}
-
 // `r?` after STOP_DET is cleared.
 fn tried(r: Tried) -> Step
     ensures { λ s. ⌜ s ≡ try-step r ⌝ }
@@ -117,68 +111,6 @@ fn tried(r: Tried) -> Step
         Tried::Fine => Step::Done,
         Tried::Failed(why) => fail(why),
     }
-}
-
-// An async read: so many words are to be queued in this round.
-fn queue(round: Round, words: u16) -> Step
-    ensures { λ r. ⌜ r ≡ queued round words ⌝ }
-{
-    if words == 0 {
-        Step::Go(Point::ReadAsync(RoundPoint::Level(round)))
-    } else {
-        Step::Go(Point::ReadAsync(RoundPoint::Queue(round, words)))
-    }
-}
-
-// A round is over.
-fn turn(send_stop: bool, round: Round) -> Step
-    ensures { λ r. ⌜ r ≡ next-turn «send_stop» round ⌝ }
-{
-    if round.remaining == 0 {
-        wait_for_stop(send_stop, Tried::Fine)
-    } else {
-        Step::Go(Point::ReadAsync(RoundPoint::Capacity(round)))
-    }
-}
-
-// So many bytes are to be fetched.
-fn fetch(send_stop: bool, round: Round, left: u16) -> Step
-    ensures { λ r. ⌜ r ≡ fetching «send_stop» round left ⌝ }
-{
-    if left == 0 {
-        turn(send_stop, round)
-    } else {
-        Step::Go(Point::ReadAsync(RoundPoint::Fetch(round, left)))
-    }
-}
-
-// An async write: from byte i on, with so many free places.
-fn fill(len: u16, send_stop: bool, i: u16, space: u16) -> Step
-    ensures { λ r. ⌜ r ≡ filling len «send_stop» i space ⌝ }
-{
-    if space == 0 {
-        return Step::Go(Point::Abort(AbortPoint::Source, Caller::Space(i)));
-    }
-    if i < len {
-        return Step::Go(Point::WriteAsync(FillPoint::Fill(i, space)));
-    }
-    wait_for_stop(send_stop, Tried::Fine)
-}
-
-// A round of an async read whose level was read without an abort.
-fn batch_read(send_stop: bool, round: Round, rxfifo: u16) -> Step
-    ensures { λ r. ⌜ r ≡ returned 0 «send_stop» (Caller.Batch round rxfifo) Tried.Fine ⌝ }
-{
-    if rxfifo < round.batch {
-        return Step::Go(Point::Wait(WaitPoint::RxTl(round)));
-    }
-    let n = smaller(rxfifo, round.remaining);
-    let after = Round {
-        remaining: difference(round.remaining, n),
-        queue: round.queue,
-        batch: round.batch,
-    };
-    fetch(send_stop, after, n)
 }
 
 // STOP rides on byte i.
@@ -343,82 +275,6 @@ fn after_write(p: WritePoint, v: u32) -> Step
                 Step::Go(Point::WriteBlocking(WritePoint::StopDet(r)))
             }
         }
-    }
-}
-
-fn after_capacity(round: Round, c: Capacity) -> Step
-    ensures { λ r. ⌜ r ≡ batch-step round c ⌝ }
-{
-    match c {
-        Capacity::TooHigh(n) => too_high(n),
-        Capacity::Places(n) => {
-            let batch = smaller(round.queue, n);
-            let begun = Round {
-                remaining: round.remaining,
-                queue: round.queue,
-                batch,
-            };
-            queue(begun, batch)
-        }
-    }
-}
-
-fn word_queued(round: Round, words: u16) -> Step
-    ensures { λ r. ⌜ r ≡ step-round Bool.false (RoundPoint.Queue round words) 0 ⌝ }
-{
-    let after = Round {
-        remaining: round.remaining,
-        queue: less(round.queue),
-        batch: round.batch,
-    };
-    queue(after, less(words))
-}
-
-fn after_round(send_stop: bool, p: RoundPoint, v: u32) -> Step
-    ensures { λ r. ⌜ r ≡ step-round «send_stop» p v ⌝ }
-{
-    match p {
-        RoundPoint::Capacity(round) => after_capacity(round, capacity_of(v)),
-        RoundPoint::Queue(round, words) => word_queued(round, words),
-        RoundPoint::Level(round) => Step::Go(Point::Abort(
-            AbortPoint::Source,
-            Caller::Batch(round, level_of(v) as u16),
-        )),
-        RoundPoint::Fetch(round, left) => fetch(send_stop, round, less(left)),
-    }
-}
-
-fn after_free(len: u16, send_stop: bool, i: u16, c: Capacity) -> Step
-    ensures { λ r. ⌜ r ≡ free-step len «send_stop» i c ⌝ }
-{
-    match c {
-        Capacity::TooHigh(n) => too_high(n),
-        Capacity::Places(n) => fill(len, send_stop, i, n),
-    }
-}
-
-fn after_full(i: u16, c: Capacity) -> Step
-    ensures { λ r. ⌜ r ≡ full-step i c ⌝ }
-{
-    match c {
-        Capacity::TooHigh(n) => too_high(n),
-        Capacity::Places(n) => {
-            if n == 0 {
-                Step::Go(Point::Wait(WaitPoint::TxTl(i)))
-            } else {
-                Step::Go(Point::WriteAsync(FillPoint::Free(i)))
-            }
-        }
-    }
-}
-
-fn after_fill(len: u16, send_stop: bool, p: FillPoint, v: u32) -> Step
-    ensures { λ r. ⌜ r ≡ step-fill len «send_stop» p v ⌝ }
-{
-    match p {
-        FillPoint::Free(i) => after_free(len, send_stop, i, capacity_of(v)),
-        FillPoint::Fill(i, space) => fill(len, send_stop, one_more(len, i), less(space)),
-        FillPoint::Full(i) => after_full(i, capacity_of(v)),
     }
 }
 

@@ -1,9 +1,9 @@
--- `transfer::moves::batch_read` meets its contract.
+-- `transfer::queues::batch_read` meets its contract.
 use Rattle.transfer.specs.Machine.{returned}
 use borrow.Author.Tests.{le-ltb, lt-ltb}
 use borrow.Author.Needs.{needs}
-use Rattle.transfer.proofs.moves.batch_read.Statement.{statement}
-use Rattle.transfer.proofs.moves.batch_read.Tie as tie
+use Rattle.transfer.proofs.queues.batch_read.Statement.{statement}
+use Rattle.transfer.proofs.queues.batch_read.Tie as tie
 
 returns : tie.Need-returns
 unfolding returned

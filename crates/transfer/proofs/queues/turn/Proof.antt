@@ -1,9 +1,9 @@
--- `transfer::moves::turn` meets its contract.
+-- `transfer::queues::turn` meets its contract.
 use Rattle.transfer.specs.Machine.{next-turn}
 use borrow.Author.Tests.{eq-eqb, ne-eqb}
 use borrow.Author.Needs.{needs}
-use Rattle.transfer.proofs.moves.turn.Statement.{statement}
-use Rattle.transfer.proofs.moves.turn.Tie as tie
+use Rattle.transfer.proofs.queues.turn.Statement.{statement}
+use Rattle.transfer.proofs.queues.turn.Tie as tie
 
 wait-for-stop-requires : tie.Need-wait-for-stop-requires
 wait-for-stop-requires c κs = search needs

@@ -1,9 +1,9 @@
--- `transfer::moves::fill` meets its contract.
+-- `transfer::queues::fill` meets its contract.
 use Rattle.transfer.specs.Machine.{filling}
 use borrow.Author.Tests.{eq-eqb, le-ltb, lt-ltb, ne-eqb}
 use borrow.Author.Needs.{needs}
-use Rattle.transfer.proofs.moves.fill.Statement.{statement}
-use Rattle.transfer.proofs.moves.fill.Tie as tie
+use Rattle.transfer.proofs.queues.fill.Statement.{statement}
+use Rattle.transfer.proofs.queues.fill.Tie as tie
 
 returns : tie.Need-returns
 unfolding filling

@@ -1,8 +1,8 @@
--- `transfer::moves::after_capacity` meets its contract.
+-- `transfer::queues::after_capacity` meets its contract.
 use Rattle.transfer.specs.Machine.{batch-step}
 use borrow.Author.Needs.{needs}
-use Rattle.transfer.proofs.moves.after_capacity.Statement.{statement}
-use Rattle.transfer.proofs.moves.after_capacity.Tie as tie
+use Rattle.transfer.proofs.queues.after_capacity.Statement.{statement}
+use Rattle.transfer.proofs.queues.after_capacity.Tie as tie
 
 enum-known-c : tie.Need-enum-known-c
 enum-known-c c = search needs

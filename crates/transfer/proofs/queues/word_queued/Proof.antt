@@ -1,8 +1,8 @@
--- `transfer::moves::word_queued` meets its contract.
+-- `transfer::queues::word_queued` meets its contract.
 use Rattle.transfer.specs.Machine.{step-round}
 use borrow.Author.Needs.{needs}
-use Rattle.transfer.proofs.moves.word_queued.Statement.{statement}
-use Rattle.transfer.proofs.moves.word_queued.Tie as tie
+use Rattle.transfer.proofs.queues.word_queued.Statement.{statement}
+use Rattle.transfer.proofs.queues.word_queued.Tie as tie
 
 less-requires : tie.Need-less-requires
 less-requires c κs = search needs

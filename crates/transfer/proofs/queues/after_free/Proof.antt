@@ -1,8 +1,8 @@
--- `transfer::moves::after_free` meets its contract.
+-- `transfer::queues::after_free` meets its contract.
 use Rattle.transfer.specs.Machine.{free-step}
 use borrow.Author.Needs.{needs}
-use Rattle.transfer.proofs.moves.after_free.Statement.{statement}
-use Rattle.transfer.proofs.moves.after_free.Tie as tie
+use Rattle.transfer.proofs.queues.after_free.Statement.{statement}
+use Rattle.transfer.proofs.queues.after_free.Tie as tie
 
 enum-known-c : tie.Need-enum-known-c
 enum-known-c c = search needs

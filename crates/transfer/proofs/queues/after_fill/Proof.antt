@@ -1,8 +1,8 @@
--- `transfer::moves::after_fill` meets its contract.
+-- `transfer::queues::after_fill` meets its contract.
 use Rattle.transfer.specs.Machine.{step-fill}
 use borrow.Author.Needs.{needs}
-use Rattle.transfer.proofs.moves.after_fill.Statement.{statement}
-use Rattle.transfer.proofs.moves.after_fill.Tie as tie
+use Rattle.transfer.proofs.queues.after_fill.Statement.{statement}
+use Rattle.transfer.proofs.queues.after_fill.Tie as tie
 
 enum-known-p : tie.Need-enum-known-p
 enum-known-p c = search needs

@@ -1,8 +1,8 @@
--- `transfer::moves::after_round` meets its contract.
+-- `transfer::queues::after_round` meets its contract.
 use Rattle.transfer.specs.Machine.{step-round}
 use borrow.Author.Needs.{needs}
-use Rattle.transfer.proofs.moves.after_round.Statement.{statement}
-use Rattle.transfer.proofs.moves.after_round.Tie as tie
+use Rattle.transfer.proofs.queues.after_round.Statement.{statement}
+use Rattle.transfer.proofs.queues.after_round.Tie as tie
 
 enum-known-p : tie.Need-enum-known-p
 enum-known-p c = search needs

@@ -1,9 +1,9 @@
--- `transfer::moves::fetch` meets its contract.
+-- `transfer::queues::fetch` meets its contract.
 use Rattle.transfer.specs.Machine.{fetching}
 use borrow.Author.Tests.{eq-eqb, ne-eqb}
 use borrow.Author.Needs.{needs}
-use Rattle.transfer.proofs.moves.fetch.Statement.{statement}
-use Rattle.transfer.proofs.moves.fetch.Tie as tie
+use Rattle.transfer.proofs.queues.fetch.Statement.{statement}
+use Rattle.transfer.proofs.queues.fetch.Tie as tie
 
 turn-requires : tie.Need-turn-requires
 turn-requires c κs = search needs

@@ -1,9 +1,9 @@
--- `transfer::moves::one_more` meets its contract.
+-- `transfer::queues::one_more` meets its contract.
 use Rattle.transfer.specs.Machine.{after-index}
 use borrow.Author.Tests.{le-ltb, lt-ltb}
 use borrow.Author.Needs.{needs}
-use Rattle.transfer.proofs.moves.one_more.Statement.{statement}
-use Rattle.transfer.proofs.moves.one_more.Tie as tie
+use Rattle.transfer.proofs.queues.one_more.Statement.{statement}
+use Rattle.transfer.proofs.queues.one_more.Tie as tie
 
 add-result : tie.Need-add-result
 add-result c = search needs

@@ -1,8 +1,8 @@
--- `transfer::moves::queue` meets its contract.
+-- `transfer::queues::queue` meets its contract.
 use Rattle.transfer.specs.Machine.{queued}
 use borrow.Author.Tests.{eq-eqb, ne-eqb}
-use Rattle.transfer.proofs.moves.queue.Statement.{statement}
-use Rattle.transfer.proofs.moves.queue.Tie as tie
+use Rattle.transfer.proofs.queues.queue.Statement.{statement}
+use Rattle.transfer.proofs.queues.queue.Tie as tie
 
 returns : tie.Need-returns
 unfolding queued

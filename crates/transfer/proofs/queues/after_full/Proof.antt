@@ -1,9 +1,9 @@
--- `transfer::moves::after_full` meets its contract.
+-- `transfer::queues::after_full` meets its contract.
 use Rattle.transfer.specs.Machine.{full-step}
 use borrow.Author.Tests.{eq-eqb, ne-eqb}
 use borrow.Author.Needs.{needs}
-use Rattle.transfer.proofs.moves.after_full.Statement.{statement}
-use Rattle.transfer.proofs.moves.after_full.Tie as tie
+use Rattle.transfer.proofs.queues.after_full.Statement.{statement}
+use Rattle.transfer.proofs.queues.after_full.Tie as tie
 
 enum-known-c : tie.Need-enum-known-c
 enum-known-c c = search needs
