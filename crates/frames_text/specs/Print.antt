@@ -1,4 +1,4 @@
--- Answer frames: the entries of a log, and the reply.
+-- Answer frames: the entries of a log, a buffer, and the reply.
 use Prim.Native.Nat.{ℕ}
 use mathlib.Core.List.{List, [], _∷_, _++_}
 use lib.Dec.{eqb}
@@ -25,6 +25,14 @@ entry-text (Marked mark) = if eqb mark PENDING then plain-frame 0x32 else plain-
 unfoldable pub log-text : List Entry → List ℕ
 log-text [] = []
 log-text (e ∷ es) = entry-text e ++ log-text es
+
+-- `34` the bytes of a buffer
+unfoldable pub bytes-text : List ℕ → List ℕ
+bytes-text [] = []
+bytes-text (b ∷ bs) = hex2 b ++ bytes-text bs
+
+abbrev pub buffer-text : List ℕ → List ℕ
+buffer-text bytes = hex2 0x34 ++ (bytes-text bytes ++ (LF ∷ []))
 
 -- `35` the number and the detail
 unfoldable pub answer-text : ℕ → ℕ → List ℕ

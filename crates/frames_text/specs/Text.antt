@@ -42,6 +42,20 @@ unfoldable pub number-at : List ℕ → ℕ → ℕ → Value
 number-at line at zero = Is 0
 number-at line at (suc n) = and-digit (number-at line at n) (digit-of (getD line (at + n) 0))
 
+-- the bytes that pairs of digits write, if they are pairs of digits
+pub data Bytes : Type 0 where
+  these : List ℕ → Bytes
+  none : Bytes
+
+abbrev pub and-bytes : ℕ → ℕ → Bytes → Bytes
+and-bytes high low none = none
+and-bytes high low (these bytes) = if ltb high 16 then (if ltb low 16 then these ((high * 16 + low) ∷ bytes) else none) else none
+
+unfoldable pub bytes-of : List ℕ → Bytes
+bytes-of [] = these []
+bytes-of (c ∷ []) = none
+bytes-of (c ∷ d ∷ cs) = and-bytes (digit-of c) (digit-of d) (bytes-of cs)
+
 -- the character of a digit
 unfoldable pub char-of : ℕ → ℕ
 char-of d = if ltb d 10 then d + 48 else d + 55

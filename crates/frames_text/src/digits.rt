@@ -2,7 +2,8 @@
 ghost use mathlib.Core.Path.{_≡_};
 ghost use Prim.Native.Nat.{_+_, _<_, _≤_};
 ghost use lib.ListN.{length};
-ghost use Rattle.frames_text.specs.Text.{digit-of, number-at, char-of};
+ghost use Rattle.frames_text.specs.Text.{digit-of, char-of};
+ghost use Rattle.frames_text.specs.Appended.{NumberAs};
 
 // The number that digits write, if they are digits.
 pub enum Value {
@@ -30,7 +31,7 @@ pub fn digit(c: u8) -> u8
 // The number in n bytes of a line from `at` on.
 pub fn number(line: &[u8], at: usize, n: usize) -> Value
     requires { ⌜ (at + n ≤ length (now line)) × (n ≤ 8) ⌝ }
-    ensures { λ r. ⌜ r ≡ number-at (now (line .entry)) at n ⌝ }
+    ensures { λ r. ⌜ NumberAs (now (line .entry)) at n r ⌝ }
 {
     let mut v: u32 = 0;
     let mut i: usize = 0;

@@ -8,8 +8,14 @@ ghost use Prim.Native.Nat.{_+_, _*_, _<_, _≤_};
 ghost use lib.ListN.{length, take};
 ghost use Rattle.regs.specs.Log.{decode};
 ghost use Rattle.frames_text.specs.Text.{LF, hex2, hex4, hex8};
-ghost use Rattle.frames_text.specs.Print.{plain-frame, word-frame, entry-text, log-text, answer-text, reply-text};
+ghost use Rattle.frames_text.specs.Print.{plain-frame, word-frame, entry-text, log-text, bytes-text, buffer-text, answer-text, reply-text};
 ghost use Rattle.frames_text.specs.Appended.{Appended};
+
+fn wide(b: u8) -> u32
+    ensures { λ r. ⌜ r ≡ b ⌝ }
+{
+    b as u32
+}
 
 fn push(out: &mut [u8], at: usize, c: u8) -> usize
     requires { ⌜ at < length (now out) ⌝ }
@@ -91,6 +97,29 @@ pub fn push_log(out: &mut [u8], at: usize, log: &[u32], n: usize) -> usize
         i += 1;
     }
     end
+}
+
+fn push_bytes(out: &mut [u8], at: usize, bytes: &[u8]) -> usize
+    requires { ⌜ at + 2 * length (now bytes) ≤ length (now out) ⌝ }
+    ensures { λ r. ⌜ Appended (now (out .entry)) at (bytes-text (now (bytes .entry))) (2 * length (now (bytes .entry))) (now (out .exit)) r ⌝ }
+{
+    let mut end = at;
+    let mut i: usize = 0;
+    while i < bytes.len() {
+        end = push2(out, end, wide(bytes[i]));
+        i += 1;
+    }
+    end
+}
+
+// A whole read or listen buffer.
+pub fn push_buffer(out: &mut [u8], at: usize, bytes: &[u8]) -> usize
+    requires { ⌜ at + (3 + 2 * length (now bytes)) ≤ length (now out) ⌝ }
+    ensures { λ r. ⌜ Appended (now (out .entry)) at (buffer-text (now (bytes .entry))) (3 + 2 * length (now (bytes .entry))) (now (out .exit)) r ⌝ }
+{
+    let a = push2(out, at, 0x34);
+    let b = push_bytes(out, a, bytes);
+    push(out, b, 10)
 }
 
 // A number of document 01's table and its detail.

@@ -1,3 +1,4 @@
--- What the proofs of the functions cite.
-pub mod Lengths
+-- What the proofs of the functions cite, and that the bounded session prints what Session says.
+pub mod Bound
+pub mod Keeps
 pub mod Enters

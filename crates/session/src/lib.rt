@@ -1,97 +1,157 @@
-// Lines as frames, in order: the call that is open, and what each frame does to it.
-pub mod frame; // a line as a frame
+// Frames in order: the call that is open, and what each frame does to it.
+pub mod store; // how far the lent slices are filled
+pub mod enter; // what each frame does
 
-use frame::Short;
-use frame::frame;
+use calls::Call;
+use lines::Line;
+use slave_state::SlaveState;
 ghost use mathlib.Core.Path.{_≡_};
-ghost use Prim.Native.Nat.{_+_, _≤_};
-ghost use lib.ListN.{length};
-ghost use Rattle.calls.specs.Calls.{MOST-TEXT, MOST-READINGS, LOG-WORDS};
-ghost use Rattle.session.specs.Frame.{run, frame-of};
-ghost use Rattle.session.specs.Session.{next};
-ghost use Rattle.session.specs.Enter.{as-frame, session-of, Few, EnteredAs, clock-entered, reading-entered, readings-after};
+ghost use Rattle.session.specs.Session.{wants-by, wants-of, read-taken, write-taken, complete};
+ghost use Rattle.session.specs.Enter.{taken-as, taken-by};
 
-// The call that is open, with how many of the lent readings are its own.
-pub enum Open {
-    Idle,
-    Clock(u32, u32, usize),
+// The operations that a call still wants.
+pub enum Wants {
+    Nothing,
+    Read,
+    Write,
+    Both,
+    Any,
 }
 
-// What a frame leads to: the open call after it and where what was printed ends; or it is malformed.
+// What is wanted after an operation, if it may come now.
+pub enum Took {
+    Now(Wants),
+    Never,
+}
+
+// The call after a line of bytes and what it wants then, if the line may come now.
+pub enum Taken {
+    Now(Call, Wants),
+    Never,
+}
+
+// How much of each lent slice the open call has filled, or that its operations are beyond the limits.
+pub struct Counts {
+    pub large: bool,
+    pub ops: usize,
+    pub bytes: usize,
+    pub reads: usize,
+    pub readings: usize,
+}
+
+// The call that is open, if one is.
+pub struct Open {
+    pub busy: bool,
+    pub call: Call,
+    pub wants: Wants,
+    pub counts: Counts,
+}
+
+// What a frame leads to: the open call and the slave's state after it, and where what was printed ends; or it is malformed.
 pub enum Entered {
-    Going(Open, usize),
+    Going(Open, SlaveState, usize),
     Malformed,
 }
 
-fn enter_clock(frequency: u32, clk: u32, call: Open, at: usize) -> Entered
-    ensures { λ r. ⌜ r ≡ clock-entered frequency clk call at ⌝ }
+fn wants_by(form: u8) -> Wants
+    ensures { λ r. ⌜ r ≡ wants-by form ⌝ }
 {
-    match call {
-        Open::Idle => Entered::Going(Open::Clock(frequency, clk, 0), at),
-        Open::Clock(_, _, _) => Entered::Malformed,
+    let f = form % 4;
+    if f == 0 {
+        return Wants::Read;
+    }
+    if f == 1 {
+        return Wants::Write;
+    }
+    if f == 2 {
+        return Wants::Both;
+    }
+    Wants::Any
+}
+
+fn wants_of(c: Call) -> Wants
+    ensures { λ r. ⌜ r ≡ wants-of c ⌝ }
+{
+    match c {
+        Call::Clock(_, _) => Wants::Nothing,
+        Call::Master(form, _) => wants_by(form),
+        Call::Reset(_, _) => Wants::Nothing,
+        Call::Listen(_) => Wants::Nothing,
+        Call::Respond => Wants::Nothing,
+        Call::Fill(_) => Wants::Nothing,
+        Call::RespondAndFill(_) => Wants::Nothing,
     }
 }
 
-fn enter_reading(word: u32, call: Open, readings: &mut [u32], at: usize) -> Entered
-    requires { ⌜ length (now readings) ≡ MOST-READINGS ⌝ }
-    ensures { λ r. ⌜ (r ≡ reading-entered call at) × (now (readings .exit) ≡ readings-after call word (now (readings .entry))) ⌝ }
+fn read_taken(w: Wants) -> Took
+    ensures { λ r. ⌜ r ≡ read-taken w ⌝ }
 {
-    match call {
-        Open::Idle => Entered::Malformed,
-        Open::Clock(f, c, n) => {
-            if n < calls::MOST_READINGS {
-                readings[n] = word;
-                return Entered::Going(Open::Clock(f, c, n + 1), at);
+    match w {
+        Wants::Nothing => Took::Never,
+        Wants::Read => Took::Now(Wants::Nothing),
+        Wants::Write => Took::Never,
+        Wants::Both => Took::Never,
+        Wants::Any => Took::Now(Wants::Any),
+    }
+}
+
+fn write_taken(w: Wants) -> Took
+    ensures { λ r. ⌜ r ≡ write-taken w ⌝ }
+{
+    match w {
+        Wants::Nothing => Took::Never,
+        Wants::Read => Took::Never,
+        Wants::Write => Took::Now(Wants::Nothing),
+        Wants::Both => Took::Now(Wants::Read),
+        Wants::Any => Took::Now(Wants::Any),
+    }
+}
+
+fn is_complete(w: Wants) -> bool
+    ensures { λ r. ⌜ r ≡ complete w ⌝ }
+{
+    match w {
+        Wants::Nothing => true,
+        Wants::Read => false,
+        Wants::Write => false,
+        Wants::Both => false,
+        Wants::Any => true,
+    }
+}
+
+fn taken_as(c: Call, t: Took) -> Taken
+    ensures { λ r. ⌜ r ≡ taken-as c t ⌝ }
+{
+    match t {
+        Took::Now(w) => Taken::Now(c, w),
+        Took::Never => Taken::Never,
+    }
+}
+
+// Whether a line of bytes comes in order.
+fn taken_by(l: Line, o: Open) -> Taken
+    ensures { λ r. ⌜ r ≡ taken-by l o ⌝ }
+{
+    let call = o.call;
+    let wants = o.wants;
+    match l {
+        Line::Write => {
+            if o.busy {
+                return taken_as(call, write_taken(wants));
             }
-            Entered::Malformed
+            Taken::Never
+        }
+        Line::Respond => {
+            if o.busy {
+                return Taken::Never;
+            }
+            Taken::Now(Call::Respond, Wants::Nothing)
+        }
+        Line::RespondAndFill(fill) => {
+            if o.busy {
+                return Taken::Never;
+            }
+            Taken::Now(Call::RespondAndFill(fill), Wants::Nothing)
         }
     }
-}
-
-fn enter_run(call: Open, readings: &[u32], log: &mut [u32], out: &mut [u8], at: usize) -> Entered
-    requires { ⌜ Few call × (length (now readings) ≡ MOST-READINGS) × (length (now log) ≡ LOG-WORDS) × (at + MOST-TEXT ≤ length (now out)) ⌝ }
-    ensures { λ r. ⌜ EnteredAs r (now (readings .entry)) (now (out .entry)) at (now (out .exit)) (next (session-of call (now (readings .entry))) run) ⌝ }
-{
-    match call {
-        Open::Idle => Entered::Malformed,
-        Open::Clock(f, c, n) => {
-            let end = calls::run_clock(f, c, &readings[..n], log, out, at);
-            Entered::Going(Open::Idle, end)
-        }
-    }
-}
-
-fn enter(
-    f: Short,
-    call: Open,
-    readings: &mut [u32],
-    log: &mut [u32],
-    out: &mut [u8],
-    at: usize,
-) -> Entered
-    requires { ⌜ Few call × (length (now readings) ≡ MOST-READINGS) × (length (now log) ≡ LOG-WORDS) × (at + MOST-TEXT ≤ length (now out)) ⌝ }
-    ensures { λ r. ⌜ EnteredAs r (now (readings .exit)) (now (out .entry)) at (now (out .exit)) (next (session-of call (now (readings .entry))) (as-frame f)) ⌝ }
-{
-    match f {
-        Short::Clock(frequency, clk) => enter_clock(frequency, clk, call, at),
-        Short::Reading(word) => enter_reading(word, call, readings, at),
-        Short::Run => enter_run(call, readings, log, out, at),
-        Short::Bad => Entered::Malformed,
-    }
-}
-
-// A whole line, without its LF.
-pub fn enter_line(
-    line: &[u8],
-    call: Open,
-    readings: &mut [u32],
-    log: &mut [u32],
-    out: &mut [u8],
-    at: usize,
-) -> Entered
-    requires { ⌜ Few call × (length (now readings) ≡ MOST-READINGS) × (length (now log) ≡ LOG-WORDS) × (at + MOST-TEXT ≤ length (now out)) ⌝ }
-    ensures { λ r. ⌜ EnteredAs r (now (readings .exit)) (now (out .entry)) at (now (out .exit)) (next (session-of call (now (readings .entry))) (frame-of (now (line .entry)))) ⌝ }
-{
-    let f = frame(line);
-    enter(f, call, readings, log, out, at)
 }

@@ -38,7 +38,7 @@ add-v : tie.Need-add-v Inv-loop μ-loop
 add-v c = omega (arith, below _ (c .before .before .before .before .loop .inv .1 .0) (omega arith))
 
 returns : tie.Need-returns Inv-loop μ-loop
-returns c = let a = c .before .before .before .before .before .before .args in let l = c .before .before .before .before .loop in sym (never (a .line .now) (a .at) (l .i + 1) (a .n) (no-more (a .line .now) (a .at) (l .i) (l .v) (c .before .digit .result) (l .inv .0) (c .before .digit .ensures) (c .if1 .left)) (omega arith))
+returns c = let a = c .before .before .before .before .before .before .args in let l = c .before .before .before .before .loop in record { same = sym (never (a .line .now) (a .at) (l .i + 1) (a .n) (no-more (a .line .now) (a .at) (l .i) (l .v) (c .before .digit .result) (l .inv .0) (c .before .digit .ensures) (c .if1 .left)) (omega arith)); below = tt }
 
 add-i : tie.Need-add-i Inv-loop μ-loop
 add-i c = search needs
@@ -50,7 +50,7 @@ loop-again : tie.Need-loop-again Inv-loop μ-loop
 loop-again c = let a = c .before .before .before .before .before .before .args in let l = c .before .before .before .before .loop in (one-more (a .line .now) (a .at) (l .i) (l .v) (c .before .digit .result) (l .inv .0) (c .before .digit .ensures) (c .if1 .taken), (wider (l .i) (l .inv .1 .0) (c .if1 .taken), omega arith))
 
 returns-2 : tie.Need-returns-2 Inv-loop μ-loop
-returns-2 c = let e : c .before .loop .i ≡ c .before .before .before .args .n = omega (arith, c .before .loop .inv .1 .1) in sym (rw e at (c .before .loop .inv .0))
+returns-2 c = let e : c .before .loop .i ≡ c .before .before .before .args .n = omega (arith, c .before .loop .inv .1 .1) in record { same = sym (rw e at (c .before .loop .inv .0)); below = rw e at (c .before .loop .inv .1 .0) }
 
 pub number-spec : {M : Type 1} → statement M
 number-spec =
