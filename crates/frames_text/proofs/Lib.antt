@@ -2,3 +2,4 @@
 pub mod Appends
 pub mod Numbers
 pub mod Entries
+pub mod Pairs

@@ -2,3 +2,4 @@
 pub mod Text
 pub mod Print
 pub mod Appended
+pub mod Pairs

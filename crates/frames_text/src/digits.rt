@@ -1,9 +1,11 @@
 // Numbers in capital hexadecimal digits.
 ghost use mathlib.Core.Path.{_≡_};
-ghost use Prim.Native.Nat.{_+_, _<_, _≤_};
-ghost use lib.ListN.{length};
+ghost use mathlib.Core.Bool.{true};
+ghost use Prim.Native.Nat.{_+_, _/_, _<_, _≤_};
+ghost use lib.ListN.{length, getD, set};
 ghost use Rattle.frames_text.specs.Text.{digit-of, char-of};
 ghost use Rattle.frames_text.specs.Appended.{NumberAs};
+ghost use Rattle.frames_text.specs.Pairs.{all-digits, whole-pairs, values, PutAt};
 
 // The number that digits write, if they are digits.
 pub enum Value {
@@ -45,6 +47,61 @@ pub fn number(line: &[u8], at: usize, n: usize) -> Value
         i += 1;
     }
     Value::Is(v)
+}
+
+pub fn all_digits(ds: &[u8]) -> bool
+    ensures { λ r. ⌜ r ≡ all-digits (now (ds .entry)) ⌝ }
+{
+    let mut i: usize = 0;
+    while i < ds.len() {
+        if 15 < digit(ds[i]) {
+            return false;
+        }
+        i += 1;
+    }
+    true
+}
+
+// Whether the line is pairs of digits.
+pub fn is_pairs(ds: &[u8]) -> bool
+    ensures { λ r. ⌜ r ≡ whole-pairs (now (ds .entry)) ⌝ }
+{
+    if ds.len() % 2 == 0 {
+        return all_digits(ds);
+    }
+    false
+}
+
+// The byte that the pair of digits i writes.
+fn pair(ds: &[u8], i: usize) -> u8
+    requires { ⌜ (whole-pairs (now ds) ≡ true) × (i < length (now ds) / 2) ⌝ }
+    ensures { λ r. ⌜ r ≡ getD (values (now (ds .entry))) i 0 ⌝ }
+{
+    let high = digit(ds[2 * i]);
+    let low = digit(ds[2 * i + 1]);
+    high * 16 + low
+}
+
+// A store, where the index is in range.
+pub fn put(bytes: &mut [u8], at: usize, v: u8)
+    ensures { λ _. ⌜ now (bytes .exit) ≡ set (now (bytes .entry)) at v ⌝ }
+{
+    if at < bytes.len() {
+        bytes[at] = v;
+    }
+}
+
+// The bytes that pairs of digits write, put at `at` of a lent buffer as far as it goes.
+pub fn put_bytes(ds: &[u8], bytes: &mut [u8], at: usize)
+    requires { ⌜ (whole-pairs (now ds) ≡ true) × (at ≤ 4096) ⌝ }
+    ensures { λ _. ⌜ PutAt (now (ds .entry)) at (now (bytes .entry)) (now (bytes .exit)) ⌝ }
+{
+    let n = ds.len() / 2;
+    let mut i: usize = 0;
+    while i < n {
+        put(bytes, at + i, pair(ds, i));
+        i += 1;
+    }
 }
 
 // The character of a digit.

@@ -6,7 +6,7 @@ ghost use mathlib.Core.Path.{_≡_};
 ghost use Prim.Native.Nat.{_≤_};
 ghost use lib.ListN.{length};
 ghost use Rattle.frames_text.specs.Appended.{Below, NumberAs};
-ghost use Rattle.lines.specs.Frame.{clock-of, master-of, reset-of, listen-of, fill-of, read-of, reading-of, slave-of, of-kind, plain-of, fill-head, slave-head, head-of};
+ghost use Rattle.lines.specs.Frame.{clock-of, master-of, reset-of, listen-of, fill-of, read-of, reading-of, slave-of, of-kind, plain-of, fill-head, slave-head, head-of, width};
 ghost use Rattle.lines.specs.Short.{as-frame};
 
 // The frames that end in bytes.
@@ -259,5 +259,16 @@ pub fn head_of(line: &[u8]) -> Head
             Head::Plain
         }
         Value::No => Head::Plain,
+    }
+}
+
+// How many bytes of a line stand before those that it ends in.
+pub fn width(l: Line) -> usize
+    ensures { λ r. ⌜ r ≡ width l ⌝ }
+{
+    match l {
+        Line::Write => 2,
+        Line::Respond => 4,
+        Line::RespondAndFill(_) => 6,
     }
 }

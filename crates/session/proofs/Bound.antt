@@ -8,7 +8,7 @@ use lib.Dec.{ltb}
 use lib.ListN.{length, length-append}
 use borrow.Author.Tests.{ltb-true, lt-ltb}
 use Rattle.regs.specs.Program.{if_then_else_}
-use Rattle.master.specs.Operations.{Operation, writes, reads}
+use Rattle.master.specs.Operations.{Operation, writes, reads, READ, WRITE}
 use Rattle.slave_state.specs.declared.SlaveState.{SlaveState}
 use Rattle.frames_text.specs.Text.{lines}
 use Rattle.calls.specs.Calls.{MOST-READINGS, Listed, listed, listing, over, call-text, slave-after}
@@ -18,6 +18,7 @@ use Rattle.session.specs.Session.{Next, going, malformed, Session, wants
 use Rattle.session.specs.Session as S
 use Rattle.session.specs.Bounded.{Kept, kept, large, bounded, with-operation, add, Held, idle, within, operation, kept-text, kept-slave, next-held, holds-call}
 use Rattle.session.specs.declared.Wants.{Wants}
+use Rattle.session.specs.declared.Wants.the-variants.{Nothing}
 use Rattle.session.specs.declared.Took.{Took}
 use Rattle.session.specs.declared.Took.the-variants.{Now, Never}
 
@@ -29,37 +30,46 @@ listing-more : (os : List (Operation ℕ)) (o : Operation ℕ) → listing (os +
 unfolding listing
 listing-more [] (writes bs) = same-listed refl refl (append-nil bs) refl
 listing-more [] (reads n) = same-listed refl refl refl (omega arith)
-listing-more (writes as ∷ os) (writes bs) = rw (listing-more os (writes bs)) (same-listed refl refl (sym (append-assoc as (listing os .bytes) bs)) refl)
-listing-more (writes as ∷ os) (reads n) = rw (listing-more os (reads n))
+listing-more (writes cs ∷ os) (writes bs) = rw (listing-more os (writes bs)) (same-listed refl refl (sym (append-assoc cs (listing os .bytes) bs)) refl)
+listing-more (writes cs ∷ os) (reads n) = rw (listing-more os (reads n))
 listing-more (reads m ∷ os) (writes bs) = rw (listing-more os (writes bs))
 listing-more (reads m ∷ os) (reads n) = rw (listing-more os (reads n)) (same-listed refl refl refl (omega arith))
+
+pub false-true : false ≡ true → ⊥
+false-true z = let y : _≡_ {A = ℕ} 0 1 = ap (λ (t : Bool). if t then 1 else 0) z in omega arith
 
 -- what is beyond the limits stays beyond them
 or-true : (a b c : Bool) {a′ b′ c′ : Bool} → (a ≡ true → a′ ≡ true) → (b ≡ true → b′ ≡ true) → (c ≡ true → c′ ≡ true) → a || (b || c) ≡ true → a′ || (b′ || c′) ≡ true
 or-true true b c f g h e = rw (f refl)
-or-true false true c {a′} f g h e = rw (g refl) (either a′)
+or-true false true c {a′} {b′} {c′} f g h e = rw (g refl) (either a′ c′)
   where
-    either : (x : Bool) {y : Bool} → x || (true || y) ≡ true
-    either true = refl
-    either false = refl
+    either : (x y : Bool) → x || (true || y) ≡ true
+    either true y = refl
+    either false y = refl
 or-true false false true {a′} {b′} f g h e = rw (h refl) (either a′ b′)
   where
     either : (x y : Bool) → x || (y || true) ≡ true
     either true y = refl
     either false true = refl
     either false false = refl
-or-true false false false f g h e = let z : false ≡ true = e in cc
+or-true false false false f g h e = absurd (false-true e)
 
 grows : (n m k : ℕ) → m < k + 1 → ltb n m ≡ true → ltb n k ≡ true
 grows n m k l e = lt-ltb n k (omega (arith, ltb-true n m e))
 
 over-more : (l : Listed) (o : Operation ℕ) → over l ≡ true → over (with-operation l o) ≡ true
 over-more l (writes bs) =
-    or-true (ltb 64 (length (l .kinds))) (ltb 4096 (length (l .bytes))) (ltb 4096 (l .room)) (grows 64 _ _ (simp length-append (omega arith))) (grows 4096 _ _ (simp length-append (omega arith))) (λ e. e)
+    or-true (ltb 64 (length (l .kinds))) (ltb 4096 (length (l .bytes))) (ltb 4096 (l .room))
+    (grows 64 (length (l .kinds)) (length (l .kinds ++ (WRITE ∷ []))) (rw length-append (omega arith)))
+    (grows 4096 (length (l .bytes)) (length (l .bytes ++ bs)) (rw length-append (omega arith)))
+    (λ e. e)
 over-more l (reads n) =
-    or-true (ltb 64 (length (l .kinds))) (ltb 4096 (length (l .bytes))) (ltb 4096 (l .room)) (grows 64 _ _ (simp length-append (omega arith))) (λ e. e) (grows 4096 _ _ (omega arith))
+    or-true (ltb 64 (length (l .kinds))) (ltb 4096 (length (l .bytes))) (ltb 4096 (l .room))
+    (grows 64 (length (l .kinds)) (length (l .kinds ++ (READ ∷ []))) (rw length-append (omega arith)))
+    (λ e. e)
+    (grows 4096 (l .room) (l .room + n) (omega arith))
 
-bounded-more : (os : List (Operation ℕ)) (o : Operation ℕ) → bounded (listing (os ++ (o ∷ []))) ≡ add (bounded (listing os)) o
+pub bounded-more : (os : List (Operation ℕ)) (o : Operation ℕ) → bounded (listing (os ++ (o ∷ []))) ≡ add (bounded (listing os)) o
 bounded-more os o = rw (listing-more os o) (go (over (listing os)) refl)
   where
     go : (b : Bool) → over (listing os) ≡ b → bounded (with-operation (listing os) o) ≡ add (bounded (listing os)) o
@@ -100,8 +110,8 @@ commutes (S.within s c w os rs) (write bs) = taken s c os (writes bs) rs (write-
 commutes (S.within s c w os rs) (read n) = taken s c os (reads n) rs (read-taken w)
 commutes (S.within s c w os rs) (reading v) = go (complete w) (ltb (length rs) MOST-READINGS)
   where
-    go : (a b : Bool) → (if a then (if b then going (within s c _ (bounded (listing os)) (rs ++ (v ∷ []))) [] else malformed) else malformed)
-        ≡ both (if a then (if b then going (S.within s c _ os (rs ++ (v ∷ []))) [] else malformed) else malformed)
+    go : (a b : Bool) → (if a then (if b then going (within s c Nothing (bounded (listing os)) (rs ++ (v ∷ []))) [] else malformed) else malformed)
+        ≡ both (if a then (if b then going (S.within s c Nothing os (rs ++ (v ∷ []))) [] else malformed) else malformed)
     go true true = refl
     go true false = refl
     go false b = refl
@@ -120,11 +130,11 @@ same-inside (S.within s c w os rs) = refl
 same-from : (line : ℕ) (h : Session) (ls : List (List ℕ)) → printed-from next-held holds-call line (held h) ls ≡ printed-from next is-open line h ls
 unfolding printed-from
 same-from line h [] = rw (same-inside h)
-same-from line h (l ∷ ls) = rw (commutes h (frame-of l)) (go (next h (frame-of l)))
+same-from line h (l ∷ ls) = rw (commutes h (frame-of l)) (go (next h (frame-of l)) (λ t. same-from (line-after line) t ls))
   where
-    go : (n : Next Session) → onward line (both n) (λ t. printed-from next-held holds-call (line-after line) t ls) ≡ onward line n (λ t. printed-from next is-open (line-after line) t ls)
-    go (going t text) = ap (λ (x : List ℕ). text ++ x) (same-from (line-after line) t ls)
-    go malformed = refl
+    go : (n : Next Session) → ((t : Session) → printed-from next-held holds-call (line-after line) (held t) ls ≡ printed-from next is-open (line-after line) t ls) → onward line (both n) (λ t. printed-from next-held holds-call (line-after line) t ls) ≡ onward line n (λ t. printed-from next is-open (line-after line) t ls)
+    go (going t text) same = ap (λ (x : List ℕ). text ++ x) (same t)
+    go malformed same = refl
 
 pub same-printed : (input : List ℕ) → printed-from next-held holds-call 1 (idle fresh) (lines input) ≡ printed input
 same-printed input = same-from 1 (S.idle fresh) (lines input)

@@ -9,41 +9,65 @@ use mathlib.Core.Path.{_≡_, refl, sym, ap, _∙_}
 use lib.Dec.{ltb}
 use lib.ListN.{length, take, drop, set, length-append, length-drop, length-set}
 use lib.Seq.{take-suc-set, take-add, length-take-le}
-use borrow.Author.Tests.{ltb-false}
+use borrow.Author.Tests.{ltb-false, lt-ltb}
 use Rattle.regs.specs.Program.{if_then_else_}
 use Rattle.master.specs.Operations.{writes, reads}
 use Rattle.calls.specs.Calls.{MOST-READINGS, listed, over}
 use Rattle.session.specs.Bounded.{Kept, kept, large, bounded, with-operation, add}
 use Rattle.session.specs.Enter.{Arrays, arrays, kept-of, Within, Lent, over-of, too-many, added-to}
 use Rattle.session.specs.declared.Counts.{Counts}
+use Rattle.session.proofs.Bound.{false-true}
 
 -- none of three tests
 none-of : (a b c : Bool) → a || (b || c) ≡ false → (a ≡ false) × (b ≡ false) × (c ≡ false)
-none-of true b c e = let z : true ≡ false = e in cc
-none-of false true c e = let z : true ≡ false = e in cc
-none-of false false true e = let z : true ≡ false = e in cc
+none-of true b c e = absurd (false-true (sym e))
+none-of false true c e = absurd (false-true (sym e))
+none-of false false true e = absurd (false-true (sym e))
 none-of false false false e = (refl, refl, refl)
+
+-- what a test chooses
+yes : (g : Bool) (x y : Counts) → g ≡ true → (if g then x else y) ≡ x
+yes true x y e = refl
+yes false x y e = absurd (false-true e)
+
+no : (g : Bool) (x y : Counts) → g ≡ false → (if g then x else y) ≡ y
+no false x y e = refl
+no true x y e = absurd (false-true (sym e))
+
+module _ (n : Counts) (k m : ℕ) where
+  pub added-large : n .large ≡ true → added-to n k m ≡ n
+  unfolding added-to
+  added-large e = yes (n .large) n _ e
+
+  pub added-over : n .large ≡ false → too-many n k m ≡ true → added-to n k m ≡ over-of n
+  unfolding added-to
+  added-over e f = no (n .large) n _ e ∙ yes (too-many n k m) (over-of n) _ f
+
+  pub added-one : n .large ≡ false → too-many n k m ≡ false → added-to n k m ≡ record { large = false; ops = n .ops + 1; bytes = n .bytes + k; reads = n .reads + m; readings = n .readings }
+  unfolding added-to
+  added-one e f = no (n .large) n _ e ∙ no (too-many n k m) (over-of n) _ f
 
 module _ (n : Counts) (h : Within n) where
   pub added-within : (k m : ℕ) → Within (added-to n k m)
   unfolding added-to
-  added-within k m = go (n .large) (too-many n k m) refl refl
+  added-within k m = go (n .large) (too-many n k m) refl
     where
-      go : (g t : Bool) → n .large ≡ g → too-many n k m ≡ t → Within (added-to n k m)
-      go true t eg et = rw eg h
-      go false true eg et = rw (eg, et) (record { ops = h .ops; bytes = h .bytes; reads = h .reads; readings = h .readings })
-      go false false eg et =
-          let f = none-of (ltb 64 (n .ops + 1)) (ltb 4096 (n .bytes + k)) (ltb 4096 (n .reads + m)) et in
-          rw (eg, et) (record { ops = ltb-false 64 (n .ops + 1) (f .0); bytes = ltb-false 4096 (n .bytes + k) (f .1); reads = ltb-false 4096 (n .reads + m) (f .2); readings = h .readings })
+      go : (g t : Bool) → too-many n k m ≡ t
+          → Within (if g then n else (if t then over-of n else record { large = false; ops = n .ops + 1; bytes = n .bytes + k; reads = n .reads + m; readings = n .readings }))
+      go true t e = h
+      go false true e = record { ops = h .ops; bytes = h .bytes; reads = h .reads; readings = h .readings }
+      go false false e =
+          let f = none-of (ltb 64 (n .ops + 1)) (ltb 4096 (n .bytes + k)) (ltb 4096 (n .reads + m)) e in
+          record { ops = ltb-false 64 (n .ops + 1) (f .0); bytes = ltb-false 4096 (n .bytes + k) (f .1); reads = ltb-false 4096 (n .reads + m) (f .2); readings = h .readings }
 
   pub added-readings : (k m : ℕ) → added-to n k m .readings ≡ n .readings
   unfolding added-to
-  added-readings k m = go (n .large) (too-many n k m) refl refl
+  added-readings k m = go (n .large) (too-many n k m)
     where
-      go : (g t : Bool) → n .large ≡ g → too-many n k m ≡ t → added-to n k m .readings ≡ n .readings
-      go true t eg et = rw eg
-      go false true eg et = rw (eg, et)
-      go false false eg et = rw (eg, et)
+      go : (g t : Bool) → (if g then n else (if t then over-of n else record { large = false; ops = n .ops + 1; bytes = n .bytes + k; reads = n .reads + m; readings = n .readings })) .readings ≡ n .readings
+      go true t = refl
+      go false true = refl
+      go false false = refl
 
   pub over-within : Within (over-of n)
   over-within = record { ops = h .ops; bytes = h .bytes; reads = h .reads; readings = h .readings }
@@ -72,26 +96,40 @@ module _ (n : Counts) (a : Arrays) (h : Within n) (l : Lent a) where
   length-stored : ltb 64 (n .ops + 1) ≡ false → (len : ℕ) → take (n .ops + 1) (set (a .lengths) (n .ops) len) ≡ take (n .ops) (a .lengths) ++ (len ∷ [])
   length-stored e len = rw add-one (take-suc-set (a .lengths) (n .ops) len (omega (arith, ltb-false 64 (n .ops + 1) e, l .lengths)))
 
-  -- a write of k bytes that stand behind those of the call
-  pub kept-write : (k : ℕ) → n .bytes + k ≤ 4096 → kept-of (added-to n k 0) (stored n a 1 k) ≡ add (kept-of n a) (writes (take k (drop (n .bytes) (a .bytes))))
+  -- a write of bytes that were put behind those of the call, as far as there was room
+  pub kept-write : (bytes′ bs : List ℕ) → take (n .bytes) bytes′ ≡ take (n .bytes) (a .bytes) → (n .bytes + length bs ≤ 4096 → take (n .bytes + length bs) bytes′ ≡ take (n .bytes) (a .bytes) ++ bs)
+      → kept-of (added-to n (length bs) 0) (stored n (arrays (a .kinds) (a .lengths) bytes′ (a .readings)) 1 (length bs)) ≡ add (kept-of n a) (writes bs)
   unfolding added-to
-  kept-write k f = go (n .large) (too-many n k 0) refl refl
+  kept-write bytes′ bs below f = go (n .large) (too-many n (length bs) 0) refl refl
     where
-      fresh : length (take k (drop (n .bytes) (a .bytes))) ≡ k
-      fresh = length-take-le k (drop (n .bytes) (a .bytes)) (rw length-drop (omega (arith, l .bytes)))
+      joined : length (take (n .bytes) (a .bytes) ++ bs) ≡ n .bytes + length bs
+      joined = length-append (take (n .bytes) (a .bytes)) bs ∙ rw bytes-kept
 
-      joined : length (take (n .bytes) (a .bytes) ++ take k (drop (n .bytes) (a .bytes))) ≡ n .bytes + k
-      joined = length-append (take (n .bytes) (a .bytes)) (take k (drop (n .bytes) (a .bytes))) ∙ rw (bytes-kept, fresh)
-
-      same : over (listed (take (n .ops) (a .kinds) ++ (1 ∷ [])) (take (n .ops) (a .lengths) ++ (k ∷ [])) (take (n .bytes) (a .bytes) ++ take k (drop (n .bytes) (a .bytes))) (n .reads)) ≡ too-many n k 0
+      same : over (listed (take (n .ops) (a .kinds) ++ (1 ∷ [])) (take (n .ops) (a .lengths) ++ (length bs ∷ [])) (take (n .bytes) (a .bytes) ++ bs) (n .reads)) ≡ too-many n (length bs) 0
       same = rw (one-kind kinds-kept 1, joined, add-zero)
 
-      go : (g t : Bool) → n .large ≡ g → too-many n k 0 ≡ t → kept-of (added-to n k 0) (stored n a 1 k) ≡ add (kept-of n a) (writes (take k (drop (n .bytes) (a .bytes))))
+      go : (g t : Bool) → n .large ≡ g → too-many n (length bs) 0 ≡ t
+          → kept-of (added-to n (length bs) 0) (stored n (arrays (a .kinds) (a .lengths) bytes′ (a .readings)) 1 (length bs)) ≡ add (kept-of n a) (writes bs)
       go true t eg et = rw eg
-      go false true eg et = rw (eg, et, fresh, same ∙ et)
+      go false true eg et = rw (eg, et, same ∙ et)
       go false false eg et =
-          let no = none-of (ltb 64 (n .ops + 1)) (ltb 4096 (n .bytes + k)) (ltb 4096 (n .reads + 0)) et in
-          rw (eg, et, fresh, same ∙ et, kind-stored (no .0) 1, length-stored (no .0) k, take-add, add-zero)
+          let no = none-of (ltb 64 (n .ops + 1)) (ltb 4096 (n .bytes + length bs)) (ltb 4096 (n .reads + 0)) et in
+          rw (eg, et, same ∙ et, kind-stored (no .0) 1, length-stored (no .0) (length bs), f (ltb-false 4096 (n .bytes + length bs) (no .1)), add-zero)
+
+  -- a write of more bytes than any call may have
+  pub kept-wide : (bs : List ℕ) → 4096 < length bs → kept-of (over-of n) a ≡ add (kept-of n a) (writes bs)
+  kept-wide bs h = go (n .large) refl
+    where
+      last : (b c : Bool) → b || (true || c) ≡ true
+      last true c = refl
+      last false c = refl
+
+      beyond : over (listed (take (n .ops) (a .kinds) ++ (1 ∷ [])) (take (n .ops) (a .lengths) ++ (length bs ∷ [])) (take (n .bytes) (a .bytes) ++ bs) (n .reads)) ≡ true
+      beyond = rw (lt-ltb 4096 (length (take (n .bytes) (a .bytes) ++ bs)) (rw length-append (omega arith))) (last (ltb 64 (length (take (n .ops) (a .kinds) ++ (1 ∷ [])))) (ltb 4096 (n .reads)))
+
+      go : (g : Bool) → n .large ≡ g → kept-of (over-of n) a ≡ add (kept-of n a) (writes bs)
+      go true eg = rw eg
+      go false eg = rw (eg, beyond)
 
   -- a read of m bytes
   pub kept-read : (m : ℕ) → kept-of (added-to n 0 m) (stored n a 0 m) ≡ add (kept-of n a) (reads m)

@@ -10,15 +10,12 @@ use Rattle.slave_state.specs.declared.SlaveState.{SlaveState}
 use Rattle.frames_text.specs.Print.{answer-text}
 use Rattle.calls.specs.Calls.{MOST-READINGS, Listed, listed, listing, over, outcome-of, outcome-text, has-buffer}
 use Rattle.calls.specs.declared.Call.{Call}
-use Rattle.calls.specs.declared.Call.the-variants.{Respond, RespondAndFill}
 use Rattle.lines.specs.Frame.{Frame, opens, write, read, reading, run, bad}
 use Rattle.session.specs.Session.{Next, going, malformed, wants-of, read-taken, write-taken, complete}
 use Rattle.session.specs.declared.Wants.{Wants}
 use Rattle.session.specs.declared.Wants.the-variants.{Nothing}
 use Rattle.session.specs.declared.Took.{Took}
 use Rattle.session.specs.declared.Took.the-variants.{Now, Never}
-use Rattle.lines.specs.declared.Line.{Line}
-use Rattle.lines.specs.declared.Line.the-variants as Line
 
 -- the operations so far, or that they are beyond the limits
 pub data Kept : Type 0 where
@@ -70,22 +67,3 @@ next-held (within s c w k rs) bad = malformed
 abbrev pub holds-call : Held → Bool
 holds-call (idle s) = false
 holds-call (within s c w k rs) = true
-
--- ---- the bytes of a line, or that they are too many
-
-pub data Fresh : Type 0 where
-  fits : List ℕ → Fresh
-  wide : Fresh
-
-abbrev pub add-fresh : Kept → Fresh → Kept
-add-fresh k (fits bs) = add k (writes bs)
-add-fresh k wide = large
-
--- what a line of bytes leads to
-abbrev pub next-bytes : Held → Line → Fresh → Next Held
-next-bytes (idle s) Line.Write f = malformed
-next-bytes (idle s) Line.Respond f = going (within s Respond Nothing (add-fresh (kept (listed [] [] [] 0)) f) []) []
-next-bytes (idle s) (Line.RespondAndFill b) f = going (within s (RespondAndFill b) Nothing (add-fresh (kept (listed [] [] [] 0)) f) []) []
-next-bytes (within s c w k rs) Line.Write f = operation s c (add-fresh k f) rs (write-taken w)
-next-bytes (within s c w k rs) Line.Respond f = malformed
-next-bytes (within s c w k rs) (Line.RespondAndFill b) f = malformed

@@ -10,10 +10,13 @@ use Rattle.slave_state.specs.declared.SlaveState.{SlaveState}
 use Rattle.frames_text.specs.Appended.{Appended}
 use Rattle.calls.specs.Calls.{MOST-READINGS, listed}
 use Rattle.calls.specs.Runs.{LOG-WORDS, MOST-TEXT}
+use Rattle.lines.specs.Frame.{bytes-frame}
+use Rattle.frames_text.specs.Text.{bytes-of}
 use Rattle.calls.specs.declared.Call.{Call}
+use Rattle.calls.specs.declared.Done.{Done}
 use Rattle.calls.specs.declared.Call.the-variants.{Respond, RespondAndFill}
 use Rattle.session.specs.Session.{Next, going, malformed, wants-of, read-taken, write-taken, complete}
-use Rattle.session.specs.Bounded.{Kept, kept, large, Held, idle, within}
+use Rattle.session.specs.Bounded.{Kept, kept, large, Held, idle, within, kept-text, kept-slave, next-held}
 use Rattle.session.specs.declared.Wants.{Wants}
 use Rattle.session.specs.declared.Wants.the-variants.{Nothing}
 use Rattle.session.specs.declared.Took.{Took}
@@ -47,6 +50,9 @@ session-of o s a = if o .busy then within s (o .call) (o .wants) (kept-of (o .co
 abbrev pub no-counts : Counts
 no-counts = record { large = false; ops = 0; bytes = 0; reads = 0; readings = 0 }
 
+abbrev pub no-call : Open
+no-call = record { busy = false; call = Respond; wants = Nothing; counts = no-counts }
+
 pub record Within (n : Counts) : Type 0 where
   pub ops : n .ops ≤ 64
   pub bytes : n .bytes ≤ 4096
@@ -71,6 +77,10 @@ pub record Workspace (b l o : List ℕ) (at : ℕ) : Type 0 where
   pub log : length l ≡ LOG-WORDS
   pub out : at + MOST-TEXT ≤ length o
 
+-- so many bytes of a line are kept: the longest line that is not beyond the limits has 6 and then 4,096 pairs of digits
+abbrev pub LONGEST-KEPT : ℕ
+LONGEST-KEPT = 8198
+
 -- ---- a frame entered: the session after it, and what was printed
 
 abbrev pub text-of : Next Held → List ℕ
@@ -94,6 +104,11 @@ pub record EnteredAs (e : Entered) (a : Arrays) (out₀ : List ℕ) (at : ℕ) (
   pub text : Appended out₀ at (text-of to) MOST-TEXT out (end-of e at)
   pub small : SmallAfter e
   pub lent : Lent a
+
+-- the open call was run, or refused with 20
+pub record CalledAs (o : Open) (s : SlaveState) (a : Arrays) (out₀ : List ℕ) (at : ℕ) (out : List ℕ) (r : Done) : Type 0 where
+  pub text : Appended out₀ at (kept-text (o .call) (kept-of (o .counts) a) (take (o .counts .readings) (a .readings)) s) MOST-TEXT out (r .end)
+  pub slave : r .slave ≡ kept-slave (o .call) (kept-of (o .counts) a) (take (o .counts .readings) (a .readings)) s
 
 -- ---- the code's small steps
 
@@ -143,3 +158,8 @@ abbrev pub reading-entered : Open → SlaveState → ℕ → Entered
 reading-entered o s at =
     if o .busy then (if complete (o .wants) then (if ltb (o .counts .readings) MOST-READINGS then Going (opened (o .call) Nothing (one-reading (o .counts))) s at
     else Malformed) else Malformed) else Malformed
+
+-- a line of the pairs of digits `ds` was entered, whatever the readings are and whatever was printed before
+abbrev pub PairsAs : Line → List ℕ → Open → SlaveState → List ℕ → List ℕ → List ℕ → List ℕ → List ℕ → List ℕ → ℕ → Entered → Type 0
+PairsAs l ds o s ks ls bs ks′ ls′ bs′ at r =
+    (rs out : List ℕ) → Lent (arrays ks ls bs rs) → EnteredAs r (arrays ks′ ls′ bs′ rs) out at out (next-held (session-of o s (arrays ks ls bs rs)) (bytes-frame l (bytes-of ds)))

@@ -70,14 +70,6 @@ pub fn one_more(n: Counts) -> Counts
 }
 
 // Stores, where the index is in range.
-pub fn put8(a: &mut [u8], at: usize, v: u8)
-    ensures { λ _. ⌜ now (a .exit) ≡ set (now (a .entry)) at v ⌝ }
-{
-    if at < a.len() {
-        a[at] = v;
-    }
-}
-
 pub fn put16(a: &mut [u16], at: usize, v: u16)
     ensures { λ _. ⌜ now (a .exit) ≡ set (now (a .entry)) at v ⌝ }
 {

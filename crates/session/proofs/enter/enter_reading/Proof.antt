@@ -1,0 +1,60 @@
+-- `session::enter::enter_reading` meets its contract.
+use borrow.Author.Tests.{lt-ltb, le-ltb}
+use borrow.Author.Tests.{le-ltb, lt-ltb}
+use mathlib.Core.Path.{sym, _∙_}
+use borrow.Author.Needs.{needs}
+use Rattle.session.proofs.enter.enter_reading.Statement.{statement}
+use Rattle.session.proofs.enter.enter_reading.Tie as tie
+
+put32-requires : tie.Need-put32-requires
+put32-requires c κs = search needs
+
+is-complete-requires : tie.Need-is-complete-requires
+is-complete-requires c κs = search needs
+
+one-more-requires : tie.Need-one-more-requires
+one-more-requires c κs = search needs
+
+open-requires : tie.Need-open-requires
+open-requires c κs = search needs
+
+same-length : tie.Need-same-length
+same-length c = search needs
+
+returns : tie.Need-returns
+returns c = (rw (c .before .before .before .before .before .before .if1 .taken, sym (c .before .before .before .before .before .is-complete .ensures) ∙ c .before .before .before .before .if2 .taken, lt-ltb _ _ (c .before .before .if3 .taken)) (rw (c .«open» .ensures, c .before .one-more .ensures)), c .before .before .before .before .before .before .before .before .before .put32 .ensures)
+
+same-length-2 : tie.Need-same-length-2
+same-length-2 c = search needs
+
+returns-2 : tie.Need-returns-2
+returns-2 c = (simp (c .before .before .before .before .if1 .taken, sym (c .before .before .before .is-complete .ensures) ∙ c .before .before .if2 .taken, le-ltb _ _ (c .if3 .left)), c .before .before .before .before .before .before .before .put32 .ensures)
+
+same-length-3 : tie.Need-same-length-3
+same-length-3 c = search needs
+
+returns-3 : tie.Need-returns-3
+returns-3 c = (simp (c .before .before .if1 .taken, sym (c .before .is-complete .ensures) ∙ c .if2 .left), c .before .before .before .before .before .put32 .ensures)
+
+same-length-4 : tie.Need-same-length-4
+same-length-4 c = search needs
+
+returns-4 : tie.Need-returns-4
+returns-4 c = (simp (c .if1 .left), c .before .before .before .put32 .ensures)
+
+pub enter-reading-spec : {M : Type 1} → statement M
+enter-reading-spec =
+    tie.close
+    (tie.spec
+    put32-requires
+    is-complete-requires
+    one-more-requires
+    open-requires
+    same-length
+    returns
+    same-length-2
+    returns-2
+    same-length-3
+    returns-3
+    same-length-4
+    returns-4)
