@@ -5,6 +5,7 @@ use mathlib.Core.List.{List, [], _++_, append-assoc, append-nil}
 use mathlib.Core.Path.{_≡_, refl, sym, ap, _∙_}
 use lib.ListN.{take, drop}
 use Rattle.session.specs.Session.{printed}
+use Rattle.session.proofs.Bound.{same-printed}
 use Rattle.frames.specs.Rest.{Whole, rest, FedAs, Finished, start-state}
 
 -- calls of `feed` one after the other, by their contract: from v, reading `input`, to w, with `text` written. What a call left of its chunk is fed again.
@@ -24,4 +25,4 @@ reads {v} {w} (feed {u = u} {text = text} chunk later used made out f r) more =
 pub every-split : {v w : Whole} {input text out : List ℕ} {made : ℕ} → v .state ≡ start-state → Reads v input w text → Finished w out made → text ++ take made out ≡ printed input
 every-split {v} {input = input} {text = text} {out = out} {made = made} e r f =
     let a : rest v input ≡ text ++ take made out = ap (rest v) (sym (append-nil input)) ∙ (reads r [] ∙ ap (λ (l : List ℕ). text ++ l) (sym (f .same))) in
-    sym (rw e at a)
+    sym (rw e at a) ∙ same-printed input

@@ -1,26 +1,26 @@
 -- The loop over a chunk, and the end of the input.
-use Rattle.session.specs.Frame.{LONGEST}
-use Prim.Native.Nat.{ℕ, zero, suc, _+_, _-_, _<_, _≤_}
+use Prim.Native.Nat.{ℕ, zero, suc, _+_, _-_, _<_, _≤_, min}
 use native.Mathlib.Omega.{arith}
 use native.Mathlib.Numerals.{add-one}
+use native.Mathlib.Nat.{suc-min-suc}
 use mathlib.Core.List.{List, [], _∷_, _++_, append-nil}
 use mathlib.Core.Bool.{Bool, true, false}
 use mathlib.Core.Path.{_≡_, refl, sym, ap, _∙_}
 use lib.Dec.{ltb}
-use lib.ListN.{length, take, drop, getD, length-take}
-use lib.Seq.{drop-cons, length-take-le}
+use lib.ListN.{length, take, drop, getD, length-append, length-take}
+use lib.Seq.{drop-cons}
 use borrow.Author.Tests.{ltb-true, ltb-false}
+use Rattle.regs.specs.Program.{if_then_else_}
 use Rattle.frames_text.specs.Text.{lines-after, last-line}
 use Rattle.frames_text.specs.Appended.{Appended}
-use Rattle.calls.specs.Calls.{MOST-TEXT}
-use Rattle.session.specs.Session.{Session, at-end, printed-from}
-use Rattle.session.specs.Enter.{session-of}
-use Rattle.frames.specs.Rest.{Whole, whole, rest, rest-of, Sound, Went, FedAs, Finished, begun-of, stopped-of, end-text}
+use Rattle.calls.specs.Runs.{MOST-TEXT}
+use Rattle.session.specs.Session.{refusal, printed-from}
+use Rattle.session.specs.Bounded.{Held, next-held, holds-call}
+use Rattle.session.specs.Enter.{session-of, LONGEST-KEPT}
+use Rattle.session.proofs.Bound.{false-true}
+use Rattle.frames.specs.Rest.{Whole, rest, rest-of, from-line, digits-more, Sound, Went, FedAs, Finished, begun-of, stopped-of, end-text}
 use Rattle.frames.specs.declared.Part.{Part}
-use Rattle.frames.specs.declared.Part.the-variants.{Stopped, Text}
-use Rattle.frames.specs.declared.State.{State}
-use Rattle.session.specs.declared.Open.{Open}
-use Rattle.session.specs.declared.Open.the-variants.{Idle, Clock}
+use Rattle.frames.specs.declared.Part.the-variants.{Stopped, Text, Long}
 
 -- a byte of a chunk
 pub byte-read : {v w : Whole} {out₀ out : List ℕ} {at end x : ℕ} (chunk : List ℕ) (i : ℕ) → i < length chunk → x ≡ getD chunk i 0
@@ -66,10 +66,11 @@ module _ {v w : Whole} {chunk out₀ out : List ℕ} {n end : ℕ} (p : Feeding 
       }
     where
       silent : (q : Part) → stopped-of q ≡ true → (input : List ℕ)
-          → rest-of q (w .state .line) (session-of (w .state .call) (w .readings)) (w .text) (drop n chunk ++ input)
-          ≡ rest-of q (w .state .line) (session-of (w .state .call) (w .readings)) (w .text) (drop (length chunk) chunk ++ input)
+          → rest-of q (w .state .line) (session-of (w .state .call) (w .state .slave) (w .lists)) (w .text) (drop n chunk ++ input)
+          ≡ rest-of q (w .state .line) (session-of (w .state .call) (w .state .slave) (w .lists)) (w .text) (drop (length chunk) chunk ++ input)
       silent Stopped z input = refl
-      silent (Text k) z input = cc
+      silent (Text k) z input = absurd (false-true z)
+      silent (Long o) z input = absurd (false-true z)
 
   pub fed-more : {w′ : Whole} {out′ : List ℕ} {n′ end′ : ℕ} → Went w out end (drop n chunk) w′ out′ end′ (drop n′ chunk) × (end′ ≤ end + MOST-TEXT) × (n < n′) × (n′ ≤ length chunk)
       → length out′ ≡ length out → MOST-TEXT ≤ length out - end → Feeding v chunk out₀ w′ out′ n′ end′
@@ -83,10 +84,9 @@ module _ {v w : Whole} {chunk out₀ out : List ℕ} {n end : ℕ} (p : Feeding 
       }
 
 -- the end of the input inside a line is the end of the line
-last-some : (n : ℕ) (t : List ℕ) → 0 < n → length t ≡ LONGEST → last-line (take n t) ≡ take n t ∷ []
-last-some zero t h z = absurd (omega arith)
-last-some (suc n) [] h z = absurd (omega (arith, z))
-last-some (suc n) (c ∷ t) h z = refl
+last-some : (t : List ℕ) → 0 < length t → last-line t ≡ t ∷ []
+last-some [] h = absurd (omega arith)
+last-some (c ∷ t) h = refl
 
 module _ (v : Whole) (g : Sound v) where
   ends-line : begun-of (v .state .part) ≡ true → rest v [] ≡ rest v (10 ∷ [])
@@ -94,30 +94,40 @@ module _ (v : Whole) (g : Sound v) where
   ends-line b = go (v .state .part) b
     where
       go : (p : Part) → begun-of p ≡ true
-          → rest-of p (v .state .line) (session-of (v .state .call) (v .readings)) (v .text) [] ≡ rest-of p (v .state .line) (session-of (v .state .call) (v .readings)) (v .text) (10 ∷ [])
+          → rest-of p (v .state .line) (session-of (v .state .call) (v .state .slave) (v .lists)) (v .text) [] ≡ rest-of p (v .state .line) (session-of (v .state .call) (v .state .slave) (v .lists)) (v .text) (10 ∷ [])
       go Stopped e = refl
-      go (Text n) e = rw (last-some n (v .text) (omega (arith, ltb-true)) (g .text))
+      go (Text n) e = rw (last-some (take n (v .text)) (rw length-take (some n (length (v .text)) (ltb-true _ _ e) (omega (arith, g .text)))))
+        where
+          some : (i j : ℕ) → 0 < i → 0 < j → 0 < min i j
+          some zero j h k = absurd (omega arith)
+          some (suc i) zero h k = absurd (omega arith)
+          some (suc i) (suc j) h k = rw suc-min-suc (omega arith)
+      go (Long o) e = rw (last-some (v .text ++ digits-more o) (rw length-append (omega (arith, g .text))))
 
 -- after whole lines
-ends-input : (v : Whole) → begun-of (v .state .part) ≡ false → rest v [] ≡ end-text (v .state .part) (v .state .line) (v .state .call)
+at-end : (v : Whole) → holds-call (session-of (v .state .call) (v .state .slave) (v .lists)) ≡ v .state .call .busy
+at-end v = go (v .state .call .busy) refl
+  where
+    go : (b : Bool) → v .state .call .busy ≡ b → holds-call (session-of (v .state .call) (v .state .slave) (v .lists)) ≡ v .state .call .busy
+    go true e = rw e
+    go false e = rw e
+
+ends-input : (v : Whole) → begun-of (v .state .part) ≡ false → rest v [] ≡ end-text (stopped-of (v .state .part)) (v .state .call .busy) (v .state .line)
 unfolding lines-after printed-from
 ends-input v b = go (v .state .part) b
   where
-    by : (call : Open) → at-end (v .state .line) (session-of call (v .readings)) ≡ at-end (v .state .line) (session-of call [])
-    by Idle = refl
-    by (Clock f c n) = refl
-
-    go : (p : Part) → begun-of p ≡ false → rest-of p (v .state .line) (session-of (v .state .call) (v .readings)) (v .text) [] ≡ end-text p (v .state .line) (v .state .call)
+    go : (p : Part) → begun-of p ≡ false → rest-of p (v .state .line) (session-of (v .state .call) (v .state .slave) (v .lists)) (v .text) [] ≡ end-text (stopped-of p) (v .state .call .busy) (v .state .line)
     go Stopped e = refl
-    go (Text n) e = let z : n ≡ 0 = omega (arith, ltb-false) in rw z (by (v .state .call))
+    go (Text n) e = let z : n ≡ 0 = omega (arith, ltb-false 0 n e) in rw z (rw (at-end v))
+    go (Long o) e = absurd (false-true (sym e))
 
 module _ (v : Whole) {out : List ℕ} {end : ℕ} where
   pub finished : (out₀ : List ℕ) → begun-of (v .state .part) ≡ false → 13 ≤ length out₀ → length out ≡ length out₀
-      → Appended out₀ 0 (end-text (v .state .part) (v .state .line) (v .state .call)) 13 out end → Finished v out end
+      → Appended out₀ 0 (end-text (stopped-of (v .state .part)) (v .state .call .busy) (v .state .line)) 13 out end → Finished v out end
   finished out₀ b room size a = record { same = a .same ∙ sym (ends-input v b); made = omega (arith, a .room) }
 
   pub finished-line : {w : Whole} {out₀ out₁ : List ℕ} {at : ℕ} → Sound v → begun-of (v .state .part) ≡ true → MOST-TEXT + 13 ≤ length out₀ → length out₁ ≡ length out₀ → length out ≡ length out₁
       → Went v out₀ 0 (10 ∷ []) w out₁ at [] × (at ≤ 0 + MOST-TEXT) × (begun-of (w .state .part) ≡ false)
-      → Appended out₁ at (end-text (w .state .part) (w .state .line) (w .state .call)) 13 out end → Finished v out end
+      → Appended out₁ at (end-text (stopped-of (w .state .part)) (w .state .call .busy) (w .state .line)) 13 out end → Finished v out end
   finished-line {w} {out₁ = out₁} {at = at} g b room size size₂ d a =
       record { same = a .same ∙ (ap (λ (x : List ℕ). take at out₁ ++ x) (sym (ends-input w (d .2))) ∙ (sym (d .0 .same []) ∙ sym (ends-line v g b))); made = omega (arith, a .room, d .1) }

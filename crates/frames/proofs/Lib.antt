@@ -1,5 +1,6 @@
 -- What the proofs of the functions cite, and the claim over them.
 pub mod Lines
-pub mod Turns
+pub mod Long
+pub mod Steps
 pub mod Feeds
 pub mod EverySplit

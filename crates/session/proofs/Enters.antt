@@ -55,6 +55,9 @@ busy c w n h = record { counts = h; none = λ (e : true ≡ false). absurd (diff
 no-counts-within : Within no-counts
 no-counts-within = record { ops = omega arith; bytes = omega arith; reads = omega arith; readings = omega arith }
 
+pub closed-small : Small no-call
+closed-small = record { counts = no-counts-within; none = λ e. refl }
+
 module _ (o : Open) (s : SlaveState) (a : Arrays) (at : ℕ) (out : List ℕ) (g : Small o) (l : Lent a) where
   pub enters-call : (c : Call) → EnteredAs (call-entered c o s at) a out at out (next-held (session-of o s a) (opens c []))
   unfolding listing
@@ -123,9 +126,9 @@ module _ (o : Open) (s : SlaveState) (a : Arrays) (at : ℕ) (out : List ℕ) (g
       (next-held (session-of o s a) (bytes-frame line (bytes-of ds)))
   enters-pairs ds bytes′ w p line =
       rw (written ds w, ← length-values ds) (
-        enters-written (added-to (o .counts) (length (values ds)) 0) (stored (o .counts) a′ 1 (length (values ds))) (values ds) (added-within (o .counts) (g .counts) (length (values ds)) 0)
-        (stored-lent (o .counts) a′ (g .counts) l′ 1 (length (values ds))) (added-readings (o .counts) (g .counts) (length (values ds)) 0) refl
-        (kept-write (o .counts) a (g .counts) l bytes′ (values ds) (p .below) (λ h. rw (length-values ds) (p .stored (omega (arith, length-values ds, l .bytes))))) line
+      enters-written (added-to (o .counts) (length (values ds)) 0) (stored (o .counts) a′ 1 (length (values ds))) (values ds) (added-within (o .counts) (g .counts) (length (values ds)) 0)
+      (stored-lent (o .counts) a′ (g .counts) l′ 1 (length (values ds))) (added-readings (o .counts) (g .counts) (length (values ds)) 0) refl
+      (kept-write (o .counts) a (g .counts) l bytes′ (values ds) (p .below) (λ h. rw (length-values ds) (p .stored (omega (arith, length-values ds, l .bytes))))) line
       )
     where
       a′ : Arrays
@@ -170,7 +173,7 @@ module _ (o : Open) (s : SlaveState) (a : Arrays) (at : ℕ) (out : List ℕ) (g
 
   pub enters-run : {out′ : List ℕ} {d : Done} → o .busy ≡ true → complete (o .wants) ≡ true → CalledAs o s a out at out′ d → EnteredAs (Going no-call (d .slave) (d .end)) a out at out′ (next-held (session-of o s a) run)
   enters-run {out′} {d} e f k =
-      rw (e, f) (record { same = rw (k .slave); text = k .text; small = record { counts = no-counts-within; none = λ z. refl }; lent = l })
+      rw (e, f) (record { same = rw (k .slave); text = k .text; small = closed-small; lent = l })
 
   pub runs-not : o .busy ≡ false → EnteredAs Malformed a out at out (next-held (session-of o s a) run)
   runs-not e = rw e (refused l)

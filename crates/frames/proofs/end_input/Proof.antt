@@ -1,27 +1,30 @@
 -- `frames::end_input` meets its contract.
+use mathlib.Core.Path.{_≡_, sym, _∙_}
 use Rattle.frames_text.proofs.Appends.{nothing}
+use mathlib.Core.Path.{sym, _∙_}
 use borrow.Author.Needs.{needs}
 use Rattle.frames.proofs.end_input.Statement.{statement}
 use Rattle.frames.proofs.end_input.Tie as tie
 
-enum-told : tie.Need-enum-told
-enum-told c = search needs
-
-enum-told-2 : tie.Need-enum-told-2
-enum-told-2 c = search needs
-
-end-call-requires : tie.Need-end-call-requires
-end-call-requires c κs = search needs
+is-stopped-requires : tie.Need-is-stopped-requires
+is-stopped-requires c κs = search needs
 
 returns : tie.Need-returns
-returns c = rw (c .enum-told .given .1) (nothing _ _ 13)
+returns c = rw (sym (c .before .is-stopped .ensures) ∙ c .if1 .taken) (nothing _ _ 13)
+
+push-answer-requires : tie.Need-push-answer-requires
+push-answer-requires c κs = search needs
 
 same-length : tie.Need-same-length
 same-length c = search needs
 
 returns-2 : tie.Need-returns-2
-returns-2 c = rw (c .before .before .before .before .enum-told2 .given .1) (c .before .before .end-call .ensures)
+returns-2 c = rw (sym (c .before .before .before .before .before .before .before .is-stopped .ensures) ∙ c .before .before .before .before .before .before .if1 .left, c .before .before .before .before .if2 .taken) (c .before .before .push-answer .ensures)
+
+returns-3 : tie.Need-returns-3
+returns-3 c = rw (sym (c .before .before .before .is-stopped .ensures) ∙ c .before .before .if1 .left, c .if2 .left) (nothing _ _ 13)
 
 pub end-input-spec : {M : Type 1} → statement M
 end-input-spec =
-    tie.close (tie.spec enum-told enum-told-2 end-call-requires returns same-length returns-2)
+    tie.close
+    (tie.spec is-stopped-requires returns push-answer-requires same-length returns-2 returns-3)

@@ -1,37 +1,49 @@
 -- `frames::feed` meets its contract.
 use borrow.Author.Needs.{needs}
-use Rattle.frames.specs.Rest.{whole}
-use Prim.Native.Nat.{_-_}
-use lib.ListN.{length}
 use mathlib.Core.Path.{sym, _∙_}
-use Rattle.frames.proofs.Feeds.{Feeding, fed-none, fed-all, fed-some, fed-stopped, fed-more}
+use Prim.Native.Nat.{_-_}
 use native.Mathlib.Omega.{arith}
+use lib.ListN.{length}
+use Rattle.frames.specs.Rest.{whole}
+use Rattle.frames.proofs.Feeds.{Feeding, fed-none, fed-all, fed-some, fed-stopped, fed-more}
 use Rattle.frames.proofs.feed.Statement.{statement}
 use Rattle.frames.proofs.feed.Tie as tie
 
 abbrev Inv-loop : tie.InvT-loop
-Inv-loop chunk text₀ readings₀ log₀ out₀ state₀ used₀ made₀ text readings log out state used made = Feeding (whole state₀ text₀ readings₀ log₀) chunk out₀ (whole state text readings log) out used made
+Inv-loop chunk text₀ kinds₀ lengths₀ bytes₀ readings₀ buffer₀ log₀ out₀ state₀ used₀ made₀ text kinds lengths bytes readings buffer log out state used made = Feeding (whole state₀ text₀ kinds₀ lengths₀ bytes₀ readings₀ buffer₀ log₀) chunk out₀ (whole state text kinds lengths bytes readings buffer log) out used made
 
 abbrev μ-loop : tie.MeasureT-loop
-μ-loop chunk text₀ readings₀ log₀ out₀ state₀ used₀ made₀ text readings log out state used made = length chunk - used
+μ-loop chunk text₀ kinds₀ lengths₀ bytes₀ readings₀ buffer₀ log₀ out₀ state₀ used₀ made₀ text kinds lengths bytes readings buffer log out state used made = length chunk - used
 
 loop-holds : tie.Need-loop-holds Inv-loop μ-loop
-loop-holds c = fed-none _ _ _ (c .before .before .before .before .before .pre .0)
+loop-holds c = fed-none _ _ _ (c .before .before .before .before .before .before .before .before .before .pre .0)
 
 is-stopped-requires : tie.Need-is-stopped-requires Inv-loop μ-loop
 is-stopped-requires c κs = search needs
 
 same-length : tie.Need-same-length Inv-loop μ-loop
-same-length c = omega (arith, c .before .before .before .before .before .before .before .before .before .pre .0 .text, c .before .before .before .loop .inv .went .sound .text)
+same-length c = omega (arith, c .before .before .before .before .before .before .before .before .before .before .before .before .before .pre .0 .text, c .before .before .before .loop .inv .went .sound .text)
 
 same-length-2 : tie.Need-same-length-2 Inv-loop μ-loop
-same-length-2 c = omega (arith, c .before .before .before .before .before .before .before .before .before .pre .0 .readings, c .before .before .before .loop .inv .went .sound .readings)
+same-length-2 c = omega (arith, c .before .before .before .before .before .before .before .before .before .before .before .before .before .pre .0 .lent .kinds, c .before .before .before .loop .inv .went .sound .lent .kinds)
 
 same-length-3 : tie.Need-same-length-3 Inv-loop μ-loop
-same-length-3 c = omega (arith, c .before .before .before .before .before .before .before .before .before .pre .0 .log, c .before .before .before .loop .inv .went .sound .log)
+same-length-3 c = omega (arith, c .before .before .before .before .before .before .before .before .before .before .before .before .before .pre .0 .lent .lengths, c .before .before .before .loop .inv .went .sound .lent .lengths)
 
 same-length-4 : tie.Need-same-length-4 Inv-loop μ-loop
-same-length-4 c = c .before .before .before .loop .inv .size
+same-length-4 c = omega (arith, c .before .before .before .before .before .before .before .before .before .before .before .before .before .pre .0 .lent .bytes, c .before .before .before .loop .inv .went .sound .lent .bytes)
+
+same-length-5 : tie.Need-same-length-5 Inv-loop μ-loop
+same-length-5 c = omega (arith, c .before .before .before .before .before .before .before .before .before .before .before .before .before .pre .0 .lent .readings, c .before .before .before .loop .inv .went .sound .lent .readings)
+
+same-length-6 : tie.Need-same-length-6 Inv-loop μ-loop
+same-length-6 c = omega (arith, c .before .before .before .before .before .before .before .before .before .before .before .before .before .pre .0 .buffer, c .before .before .before .loop .inv .went .sound .buffer)
+
+same-length-7 : tie.Need-same-length-7 Inv-loop μ-loop
+same-length-7 c = omega (arith, c .before .before .before .before .before .before .before .before .before .before .before .before .before .pre .0 .log, c .before .before .before .loop .inv .went .sound .log)
+
+same-length-8 : tie.Need-same-length-8 Inv-loop μ-loop
+same-length-8 c = c .before .before .before .loop .inv .size
 
 returns : tie.Need-returns Inv-loop μ-loop
 returns c = fed-stopped (c .before .before .before .loop .inv) (sym (c .before .is-stopped .ensures) ∙ c .if1 .taken) (c .before .before .loop-test .taken)
@@ -39,41 +51,65 @@ returns c = fed-stopped (c .before .before .before .loop .inv) (sym (c .before .
 sub-if2 : tie.Need-sub-if2 Inv-loop μ-loop
 sub-if2 c = omega (arith, c .before .before .before .loop .inv .made)
 
-same-length-5 : tie.Need-same-length-5 Inv-loop μ-loop
-same-length-5 c = omega (arith, c .before .before .before .before .before .before .before .before .before .before .pre .0 .text, c .before .before .before .before .loop .inv .went .sound .text)
-
-same-length-6 : tie.Need-same-length-6 Inv-loop μ-loop
-same-length-6 c = omega (arith, c .before .before .before .before .before .before .before .before .before .before .pre .0 .readings, c .before .before .before .before .loop .inv .went .sound .readings)
-
-same-length-7 : tie.Need-same-length-7 Inv-loop μ-loop
-same-length-7 c = omega (arith, c .before .before .before .before .before .before .before .before .before .before .pre .0 .log, c .before .before .before .before .loop .inv .went .sound .log)
-
-same-length-8 : tie.Need-same-length-8 Inv-loop μ-loop
-same-length-8 c = c .before .before .before .before .loop .inv .size
-
-returns-2 : tie.Need-returns-2 Inv-loop μ-loop
-returns-2 c = fed-some (c .before .before .before .before .loop .inv) (c .before .before .before .before .before .before .before .before .before .before .pre .1) (c .if2 .taken)
-
-step-requires : tie.Need-step-requires Inv-loop μ-loop
-step-requires c κs = (c .before .before .before .before .before .before .before .before .loop .inv .went .sound, omega (arith, c .before .before .before .before .before .before .before .before .loop .inv .made, c .before .before .before .before .if2 .left), c .before .before .before .before .before .before .before .loop-test .taken)
-
-loop-less : tie.Need-loop-less Inv-loop μ-loop
-loop-less c = omega (arith, c .before .before .before .before .before .before .before .before .before .step .ensures .2, c .before .before .before .before .before .before .before .before .before .step .ensures .3, c .before .before .before .before .before .before .before .before .before .before .before .before .before .before .before .before .before .loop-test .taken)
-
-loop-again : tie.Need-loop-again Inv-loop μ-loop
-loop-again c = fed-more (c .before .before .before .before .before .before .before .before .before .before .before .before .before .before .before .before .before .before .loop .inv) (c .before .before .before .before .before .before .before .before .before .step .ensures) (c .before .before .before .before .before .before .before .before .before .step .kept .1 .1 .1 .1 .1 .1 .0) (c .before .before .before .before .before .before .before .before .before .before .before .before .before .before .if2 .left)
-
 same-length-9 : tie.Need-same-length-9 Inv-loop μ-loop
-same-length-9 c = omega (arith, c .before .before .before .before .before .before .before .pre .0 .text, c .before .loop .inv .went .sound .text)
+same-length-9 c = omega (arith, c .before .before .before .before .before .before .before .before .before .before .before .before .before .before .pre .0 .text, c .before .before .before .before .loop .inv .went .sound .text)
 
 same-length-10 : tie.Need-same-length-10 Inv-loop μ-loop
-same-length-10 c = omega (arith, c .before .before .before .before .before .before .before .pre .0 .readings, c .before .loop .inv .went .sound .readings)
+same-length-10 c = omega (arith, c .before .before .before .before .before .before .before .before .before .before .before .before .before .before .pre .0 .lent .kinds, c .before .before .before .before .loop .inv .went .sound .lent .kinds)
 
 same-length-11 : tie.Need-same-length-11 Inv-loop μ-loop
-same-length-11 c = omega (arith, c .before .before .before .before .before .before .before .pre .0 .log, c .before .loop .inv .went .sound .log)
+same-length-11 c = omega (arith, c .before .before .before .before .before .before .before .before .before .before .before .before .before .before .pre .0 .lent .lengths, c .before .before .before .before .loop .inv .went .sound .lent .lengths)
 
 same-length-12 : tie.Need-same-length-12 Inv-loop μ-loop
-same-length-12 c = c .before .loop .inv .size
+same-length-12 c = omega (arith, c .before .before .before .before .before .before .before .before .before .before .before .before .before .before .pre .0 .lent .bytes, c .before .before .before .before .loop .inv .went .sound .lent .bytes)
+
+same-length-13 : tie.Need-same-length-13 Inv-loop μ-loop
+same-length-13 c = omega (arith, c .before .before .before .before .before .before .before .before .before .before .before .before .before .before .pre .0 .lent .readings, c .before .before .before .before .loop .inv .went .sound .lent .readings)
+
+same-length-14 : tie.Need-same-length-14 Inv-loop μ-loop
+same-length-14 c = omega (arith, c .before .before .before .before .before .before .before .before .before .before .before .before .before .before .pre .0 .buffer, c .before .before .before .before .loop .inv .went .sound .buffer)
+
+same-length-15 : tie.Need-same-length-15 Inv-loop μ-loop
+same-length-15 c = omega (arith, c .before .before .before .before .before .before .before .before .before .before .before .before .before .before .pre .0 .log, c .before .before .before .before .loop .inv .went .sound .log)
+
+same-length-16 : tie.Need-same-length-16 Inv-loop μ-loop
+same-length-16 c = c .before .before .before .before .loop .inv .size
+
+returns-2 : tie.Need-returns-2 Inv-loop μ-loop
+returns-2 c = fed-some (c .before .before .before .before .loop .inv) (c .before .before .before .before .before .before .before .before .before .before .before .before .before .before .pre .1) (c .if2 .taken)
+
+step-requires : tie.Need-step-requires Inv-loop μ-loop
+step-requires c κs = (c .before .before .before .before .before .before .before .before .before .before .before .before .loop .inv .went .sound, omega (arith, c .before .before .before .before .before .before .before .before .before .before .before .before .loop .inv .made, c .before .before .before .before .before .before .before .before .if2 .left), c .before .before .before .before .before .before .before .before .before .before .before .loop-test .taken)
+
+loop-less : tie.Need-loop-less Inv-loop μ-loop
+loop-less c = omega (arith, c .before .before .before .before .before .before .before .before .before .before .before .before .before .before .before .before .before .step .ensures .2, c .before .before .before .before .before .before .before .before .before .before .before .before .before .before .before .before .before .step .ensures .3, c .before .before .before .before .before .before .before .before .before .before .before .before .before .before .before .before .before .before .before .before .before .before .before .before .before .before .before .before .before .loop-test .taken)
+
+loop-again : tie.Need-loop-again Inv-loop μ-loop
+loop-again c = fed-more (c .before .before .before .before .before .before .before .before .before .before .before .before .before .before .before .before .before .before .before .before .before .before .before .before .before .before .before .before .before .before .loop .inv) (c .before .before .before .before .before .before .before .before .before .before .before .before .before .before .before .before .before .step .ensures) (c .before .before .before .before .before .before .before .before .before .before .before .before .before .before .before .before .before .step .kept .1 .1 .1 .1 .1 .1 .1 .1 .1 .1 .0) (c .before .before .before .before .before .before .before .before .before .before .before .before .before .before .before .before .before .before .before .before .before .before .before .before .before .before .if2 .left)
+
+same-length-17 : tie.Need-same-length-17 Inv-loop μ-loop
+same-length-17 c = omega (arith, c .before .before .before .before .before .before .before .before .before .before .before .pre .0 .text, c .before .loop .inv .went .sound .text)
+
+same-length-18 : tie.Need-same-length-18 Inv-loop μ-loop
+same-length-18 c = omega (arith, c .before .before .before .before .before .before .before .before .before .before .before .pre .0 .lent .kinds, c .before .loop .inv .went .sound .lent .kinds)
+
+same-length-19 : tie.Need-same-length-19 Inv-loop μ-loop
+same-length-19 c = omega (arith, c .before .before .before .before .before .before .before .before .before .before .before .pre .0 .lent .lengths, c .before .loop .inv .went .sound .lent .lengths)
+
+same-length-20 : tie.Need-same-length-20 Inv-loop μ-loop
+same-length-20 c = omega (arith, c .before .before .before .before .before .before .before .before .before .before .before .pre .0 .lent .bytes, c .before .loop .inv .went .sound .lent .bytes)
+
+same-length-21 : tie.Need-same-length-21 Inv-loop μ-loop
+same-length-21 c = omega (arith, c .before .before .before .before .before .before .before .before .before .before .before .pre .0 .lent .readings, c .before .loop .inv .went .sound .lent .readings)
+
+same-length-22 : tie.Need-same-length-22 Inv-loop μ-loop
+same-length-22 c = omega (arith, c .before .before .before .before .before .before .before .before .before .before .before .pre .0 .buffer, c .before .loop .inv .went .sound .buffer)
+
+same-length-23 : tie.Need-same-length-23 Inv-loop μ-loop
+same-length-23 c = omega (arith, c .before .before .before .before .before .before .before .before .before .before .before .pre .0 .log, c .before .loop .inv .went .sound .log)
+
+same-length-24 : tie.Need-same-length-24 Inv-loop μ-loop
+same-length-24 c = c .before .loop .inv .size
 
 returns-3 : tie.Need-returns-3 Inv-loop μ-loop
 returns-3 c = fed-all (c .before .loop .inv) (c .loop-test .left)
@@ -90,18 +126,30 @@ feed-spec =
     same-length-2
     same-length-3
     same-length-4
-    returns
-    sub-if2
     same-length-5
     same-length-6
     same-length-7
     same-length-8
-    returns-2
-    step-requires
-    loop-less
-    loop-again
+    returns
+    sub-if2
     same-length-9
     same-length-10
     same-length-11
     same-length-12
+    same-length-13
+    same-length-14
+    same-length-15
+    same-length-16
+    returns-2
+    step-requires
+    loop-less
+    loop-again
+    same-length-17
+    same-length-18
+    same-length-19
+    same-length-20
+    same-length-21
+    same-length-22
+    same-length-23
+    same-length-24
     returns-3)

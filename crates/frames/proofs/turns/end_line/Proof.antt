@@ -1,8 +1,8 @@
--- `frames::end_line` meets its contract.
+-- `frames::turns::end_line` meets its contract.
 use mathlib.Core.Path.{refl}
 use borrow.Author.Needs.{needs}
-use Rattle.frames.proofs.end_line.Statement.{statement}
-use Rattle.frames.proofs.end_line.Tie as tie
+use Rattle.frames.proofs.turns.end_line.Statement.{statement}
+use Rattle.frames.proofs.turns.end_line.Tie as tie
 
 enum-known-e : tie.Need-enum-known-e
 enum-known-e c = search needs

@@ -1,16 +1,16 @@
--- `frames::line_ahead` meets its contract.
+-- `frames::ahead::line_ahead` meets its contract.
 use borrow.Author.Needs.{needs}
 use Prim.Native.Nat.{_-_}
 use native.Mathlib.Omega.{arith}
 use Rattle.frames.proofs.Lines.{Scanned, scan-none, scan-not, scan-found, scan-more}
-use Rattle.frames.proofs.line_ahead.Statement.{statement}
-use Rattle.frames.proofs.line_ahead.Tie as tie
+use Rattle.frames.proofs.ahead.line_ahead.Statement.{statement}
+use Rattle.frames.proofs.ahead.line_ahead.Tie as tie
 
 abbrev Inv-loop : tie.InvT-loop
 Inv-loop chunk i left n₀ n = Scanned chunk i n
 
 abbrev μ-loop : tie.MeasureT-loop
-μ-loop chunk i left n₀ n = 19 - n
+μ-loop chunk i left n₀ n = 8199 - n
 
 sub-left : tie.Need-sub-left Inv-loop μ-loop
 sub-left c = search needs
