@@ -1,13 +1,13 @@
 // Replays calls: frames on standard input, answers on standard output. What is written is what frames' Session says of the input, by the contracts of `frames::feed`
 // and `frames::finish` and the claim `every-split` over them; here bytes are only moved.
-ghost use Rattle.session.specs.Frame.{LONGEST};
 use frames::State;
 use libc::STDIN_FILENO;
 use libc::STDOUT_FILENO;
 ghost use mathlib.Core.Path.{_≡_};
 ghost use Prim.Native.Nat.{_+_, _≤_};
 ghost use lib.ListN.{length};
-ghost use Rattle.calls.specs.Calls.{MOST-TEXT, MOST-READINGS, LOG-WORDS};
+ghost use Rattle.calls.specs.Runs.{MOST-TEXT, LOG-WORDS};
+ghost use Rattle.session.specs.Enter.{arrays, Lent, LONGEST-KEPT};
 ghost use Rattle.frames.specs.Rest.{whole, Sound};
 
 // Feeds a chunk to its end, and writes the answers out on the way.
@@ -15,17 +15,32 @@ fn feed_all(
     chunk: &[u8],
     s: State,
     text: &mut [u8],
+    kinds: &mut [u8],
+    lengths: &mut [u16],
+    bytes: &mut [u8],
     readings: &mut [u32],
+    buffer: &mut [u8],
     log: &mut [u32],
     out: &mut [u8],
 ) -> State
-    requires { ⌜ Sound (whole s (now text) (now readings) (now log)) × (MOST-TEXT + 13 ≤ length (now out)) ⌝ }
-    ensures { λ r. ⌜ Sound (whole r (now (text .exit)) (now (readings .exit)) (now (log .exit))) ⌝ }
+    requires { ⌜ Sound (whole s (now text) (now kinds) (now lengths) (now bytes) (now readings) (now buffer) (now log)) × (MOST-TEXT + 13 ≤ length (now out)) ⌝ }
+    ensures { λ r. ⌜ Sound (whole r (now (text .exit)) (now (kinds .exit)) (now (lengths .exit)) (now (bytes .exit)) (now (readings .exit)) (now (buffer .exit)) (now (log .exit))) ⌝ }
 {
     let mut state = s;
     let mut at: usize = 0;
     while at < chunk.len() {
-        let f = frames::feed(&chunk[at..], state, text, readings, log, out);
+        let f = frames::feed(
+            &chunk[at..],
+            state,
+            text,
+            kinds,
+            lengths,
+            bytes,
+            readings,
+            buffer,
+            log,
+            out,
+        );
         state = f.state;
         at += f.used;
         let made = f.made;
@@ -44,12 +59,16 @@ fn read_some(
     chunk: &mut [u8],
     s: State,
     text: &mut [u8],
+    kinds: &mut [u8],
+    lengths: &mut [u16],
+    bytes: &mut [u8],
     readings: &mut [u32],
+    buffer: &mut [u8],
     log: &mut [u32],
     out: &mut [u8],
 ) -> Step
-    requires { ⌜ Sound (whole s (now text) (now readings) (now log)) × (MOST-TEXT + 13 ≤ length (now out)) ⌝ }
-    ensures { λ r. ⌜ Sound (whole (r .state) (now (text .exit)) (now (readings .exit)) (now (log .exit))) ⌝ }
+    requires { ⌜ Sound (whole s (now text) (now kinds) (now lengths) (now bytes) (now readings) (now buffer) (now log)) × (MOST-TEXT + 13 ≤ length (now out)) ⌝ }
+    ensures { λ r. ⌜ Sound (whole (r .state) (now (text .exit)) (now (kinds .exit)) (now (lengths .exit)) (now (bytes .exit)) (now (readings .exit)) (now (buffer .exit)) (now (log .exit))) ⌝ }
 {
     let got = libc::read(STDIN_FILENO, chunk);
     let n = io::count(got, chunk);
@@ -59,7 +78,18 @@ fn read_some(
             more: false,
         };
     }
-    let r = feed_all(&chunk[..n], s, text, readings, log, out);
+    let r = feed_all(
+        &chunk[..n],
+        s,
+        text,
+        kinds,
+        lengths,
+        bytes,
+        readings,
+        buffer,
+        log,
+        out,
+    );
     Step {
         state: r,
         more: true,
@@ -71,17 +101,32 @@ fn read_all(
     chunk: &mut [u8],
     s: State,
     text: &mut [u8],
+    kinds: &mut [u8],
+    lengths: &mut [u16],
+    bytes: &mut [u8],
     readings: &mut [u32],
+    buffer: &mut [u8],
     log: &mut [u32],
     out: &mut [u8],
 ) -> State
-    requires { ⌜ Sound (whole s (now text) (now readings) (now log)) × (MOST-TEXT + 13 ≤ length (now out)) ⌝ }
-    ensures { λ r. ⌜ Sound (whole r (now (text .exit)) (now (readings .exit)) (now (log .exit))) ⌝ }
+    requires { ⌜ Sound (whole s (now text) (now kinds) (now lengths) (now bytes) (now readings) (now buffer) (now log)) × (MOST-TEXT + 13 ≤ length (now out)) ⌝ }
+    ensures { λ r. ⌜ Sound (whole r (now (text .exit)) (now (kinds .exit)) (now (lengths .exit)) (now (bytes .exit)) (now (readings .exit)) (now (buffer .exit)) (now (log .exit))) ⌝ }
 {
     let mut state = s;
     let mut turns = u64::MAX;
     while turns > 0 {
-        let p = read_some(chunk, state, text, readings, log, out);
+        let p = read_some(
+            chunk,
+            state,
+            text,
+            kinds,
+            lengths,
+            bytes,
+            readings,
+            buffer,
+            log,
+            out,
+        );
         state = p.state;
         if p.more {
             turns -= 1;
@@ -92,26 +137,81 @@ fn read_all(
     state
 }
 
-fn close(s: State, text: &[u8], readings: &mut [u32], log: &mut [u32], out: &mut [u8])
-    requires { ⌜ Sound (whole s (now text) (now readings) (now log)) × (MOST-TEXT + 13 ≤ length (now out)) ⌝ }
+fn close(
+    s: State,
+    text: &[u8],
+    kinds: &mut [u8],
+    lengths: &mut [u16],
+    bytes: &mut [u8],
+    readings: &mut [u32],
+    buffer: &mut [u8],
+    log: &mut [u32],
+    out: &mut [u8],
+)
+    requires { ⌜ Sound (whole s (now text) (now kinds) (now lengths) (now bytes) (now readings) (now buffer) (now log)) × (MOST-TEXT + 13 ≤ length (now out)) ⌝ }
 {
-    let made = frames::finish(s, text, readings, log, out);
+    let made = frames::finish(s, text, kinds, lengths, bytes, readings, buffer, log, out);
     io::write_all(STDOUT_FILENO, &out[..made]);
 }
 
-fn replay(chunk: &mut [u8], text: &mut [u8], readings: &mut [u32], log: &mut [u32], out: &mut [u8])
-    requires { ⌜ (length (now text) ≡ LONGEST) × (length (now readings) ≡ MOST-READINGS) × (length (now log) ≡ LOG-WORDS) × (MOST-TEXT + 13 ≤ length (now out)) ⌝ }
+fn replay(
+    chunk: &mut [u8],
+    text: &mut [u8],
+    kinds: &mut [u8],
+    lengths: &mut [u16],
+    bytes: &mut [u8],
+    readings: &mut [u32],
+    buffer: &mut [u8],
+    log: &mut [u32],
+    out: &mut [u8],
+)
+    requires { ⌜ (length (now text) ≡ LONGEST-KEPT) × Lent (arrays (now kinds) (now lengths) (now bytes) (now readings)) × (length (now buffer) ≡ 4096) × (length (now log) ≡ LOG-WORDS) × (MOST-TEXT + 13 ≤ length (now out)) ⌝ }
 {
     let first = frames::start();
-    let last = read_all(chunk, first, text, readings, log, out);
-    close(last, text, readings, log, out);
+    let last = read_all(
+        chunk,
+        first,
+        text,
+        kinds,
+        lengths,
+        bytes,
+        readings,
+        buffer,
+        log,
+        out,
+    );
+    close(
+        last,
+        text,
+        kinds,
+        lengths,
+        bytes,
+        readings,
+        buffer,
+        log,
+        out,
+    );
 }
 
 fn main() {
     let mut chunk = io::large_buffer();
-    let mut text = [0u8; 18];
+    let mut text = [0u8; 8198];
+    let mut kinds = [0u8; 64];
+    let mut lengths = [0u16; 64];
+    let mut bytes = [0u8; 4096];
     let mut readings = [0u32; 8192];
+    let mut buffer = [0u8; 4096];
     let mut log = [0u32; 16384];
     let mut out = [0u8; 262144];
-    replay(&mut chunk, &mut text, &mut readings, &mut log, &mut out);
+    replay(
+        &mut chunk,
+        &mut text,
+        &mut kinds,
+        &mut lengths,
+        &mut bytes,
+        &mut readings,
+        &mut buffer,
+        &mut log,
+        &mut out,
+    );
 }

@@ -9,10 +9,10 @@ finish-requires : tie.Need-finish-requires
 finish-requires c κs = search needs
 
 slice-reshare-prefix-write-all : tie.Need-slice-reshare-prefix-write-all
-slice-reshare-prefix-write-all c = search needs
+slice-reshare-prefix-write-all c = c .before .before .before .before .before .before .before .before .before .before .before .before .before .before .finish .ensures .made
 
 slice-aggregate-write-all : tie.Need-slice-aggregate-write-all
-slice-aggregate-write-all c = sym (length-take-le _ _ (c .before .before .before .before .before .before .before .finish .ensures .made))
+slice-aggregate-write-all c = sym (length-take-le _ _ (c .before .before .before .before .before .before .before .before .before .before .before .before .before .before .before .finish .ensures .made))
 
 write-all-requires : tie.Need-write-all-requires
 write-all-requires c κs = search needs
@@ -25,6 +25,18 @@ same-length-2 c = search needs
 
 same-length-3 : tie.Need-same-length-3
 same-length-3 c = search needs
+
+same-length-4 : tie.Need-same-length-4
+same-length-4 c = search needs
+
+same-length-5 : tie.Need-same-length-5
+same-length-5 c = search needs
+
+same-length-6 : tie.Need-same-length-6
+same-length-6 c = search needs
+
+same-length-7 : tie.Need-same-length-7
+same-length-7 c = search needs
 
 returns : tie.Need-returns
 returns c = search needs
@@ -40,4 +52,8 @@ close-spec =
     same-length
     same-length-2
     same-length-3
+    same-length-4
+    same-length-5
+    same-length-6
+    same-length-7
     returns)

@@ -28,8 +28,20 @@ slice-aggregate-replay-4 c = search needs
 slice-aggregate-replay-5 : tie.Need-slice-aggregate-replay-5
 slice-aggregate-replay-5 c = search needs
 
+slice-aggregate-replay-6 : tie.Need-slice-aggregate-replay-6
+slice-aggregate-replay-6 c = search needs
+
+slice-aggregate-replay-7 : tie.Need-slice-aggregate-replay-7
+slice-aggregate-replay-7 c = search needs
+
+slice-aggregate-replay-8 : tie.Need-slice-aggregate-replay-8
+slice-aggregate-replay-8 c = search needs
+
+slice-aggregate-replay-9 : tie.Need-slice-aggregate-replay-9
+slice-aggregate-replay-9 c = search needs
+
 replay-requires : tie.Need-replay-requires
-replay-requires c κs = (size 18, size 8192, size 16384, subst⁻¹ (λ (n : ℕ). 106522 ≤ n) (size 262144) (omega arith))
+replay-requires c κs = (size 8198, record { kinds = size 64; lengths = size 64; bytes = size 4096; readings = size 8192 }, size 4096, size 16384, subst⁻¹ (λ (n : ℕ). 114717 ≤ n) (size 262144) (omega arith))
 
 returns : tie.Need-returns
 returns c = search needs
@@ -44,5 +56,9 @@ main-spec =
     slice-aggregate-replay-3
     slice-aggregate-replay-4
     slice-aggregate-replay-5
+    slice-aggregate-replay-6
+    slice-aggregate-replay-7
+    slice-aggregate-replay-8
+    slice-aggregate-replay-9
     replay-requires
     returns)
