@@ -19,19 +19,19 @@ use Rattle.master.specs.Driver.{Driver, Tried, reason-of, setup, read-and-clear
 use Rattle.master.specs.Async.{both, stop-poll, wait-stop-det}
 use Rattle.transfer.specs.Points.{with-point, has-failed}
 use Rattle.transfer.specs.Machine.{machine, next-at, next-setup, next-abort, next-wait, next-stop, store-at, step-of, step-setup, step-abort, step-wait, step-stop, returned, stop-returned, wait-stop, try-step, mask-for, poll-point, moved-to, begun}
-use Rattle.transfer.specs.declared.points.Transfer.{Transfer}
-use Rattle.transfer.specs.declared.points.Tried as T
-use Rattle.transfer.specs.declared.points.Tried.the-variants.{Fine, Failed}
-use Rattle.transfer.specs.declared.points.Caller.{Caller}
-use Rattle.transfer.specs.declared.points.Caller.the-variants as C
-use Rattle.transfer.specs.declared.points.AbortPoint.the-variants as A
-use Rattle.transfer.specs.declared.points.Poll as P
-use Rattle.transfer.specs.declared.points.Poll.the-variants as O
-use Rattle.transfer.specs.declared.points.WaitPoint.the-variants as W
-use Rattle.transfer.specs.declared.points.StopPoint.the-variants as S
-use Rattle.transfer.specs.declared.points.SetupPoint.the-variants.{Disable, Target, Enable}
-use Rattle.transfer.specs.declared.points.Point.{Point}
-use Rattle.transfer.specs.declared.points.Point.the-variants.{Setup, Abort, Wait, Stop, Finished}
+use Rattle.transfer.specs.declared.Transfer.{Transfer}
+use Rattle.transfer.specs.declared.Tried as T
+use Rattle.transfer.specs.declared.Tried.the-variants.{Fine, Failed}
+use Rattle.transfer.specs.declared.Caller.{Caller}
+use Rattle.transfer.specs.declared.Caller.the-variants as C
+use Rattle.transfer.specs.declared.AbortPoint.the-variants as A
+use Rattle.transfer.specs.declared.Poll as P
+use Rattle.transfer.specs.declared.Poll.the-variants as O
+use Rattle.transfer.specs.declared.WaitPoint.the-variants as W
+use Rattle.transfer.specs.declared.StopPoint.the-variants as S
+use Rattle.transfer.specs.declared.SetupPoint.the-variants.{Disable, Target, Enable}
+use Rattle.transfer.specs.declared.Point.{Point}
+use Rattle.transfer.specs.declared.Point.the-variants.{Setup, Abort, Wait, Stop, Finished}
 
 -- by cases of a test, with what it said
 pub by-test : {P : Type 0} (q : Bool) → (q ≡ true → P) → (q ≡ false → P) → P

@@ -10,7 +10,7 @@ use Rattle.master.specs.Operations.{read, write, write-read, transaction, liste
 use Rattle.master.specs.Transfer.{transfer}
 use Rattle.transfer.specs.Points.{mode-of}
 use Rattle.transfer.specs.Machine.{machine, started}
-use Rattle.transfer.specs.declared.points.Mode.{Mode}
+use Rattle.transfer.specs.declared.Mode.{Mode}
 use Rattle.i2c.proofs.Called.{all-left}
 use Rattle.i2c.proofs.Transfers.{read-transfer, write-transfer, write-read-transfer, transaction-transfer}
 

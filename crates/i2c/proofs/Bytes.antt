@@ -8,7 +8,7 @@ use lib.ListN.{length, getD, take, drop}
 use lib.Seq.{drop-cons}
 use borrow.Author.Tests.{eq-eqb, ne-eqb}
 use Rattle.master.specs.Async.{is-empty}
-use Rattle.transfer.specs.declared.points.Transfer.{Transfer}
+use Rattle.transfer.specs.declared.Transfer.{Transfer}
 
 module _ (bytes : List ℕ) where
   -- `rest` is what is left from byte i of the operation on

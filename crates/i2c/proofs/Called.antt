@@ -18,9 +18,9 @@ use Rattle.master.specs.Operations.{fits, lists, total, known, READ, WRITE}
 use Rattle.master.specs.Transfer.{within, read-call, write-call, write-read-call, transaction-call}
 use Rattle.transfer.specs.Points.{with-point, mode-of}
 use Rattle.transfer.specs.Machine.{machine, started}
-use Rattle.transfer.specs.declared.points.Transfer.{Transfer}
-use Rattle.transfer.specs.declared.points.Mode.{Mode}
-use Rattle.transfer.specs.declared.points.Point.{Point}
+use Rattle.transfer.specs.declared.Transfer.{Transfer}
+use Rattle.transfer.specs.declared.Mode.{Mode}
+use Rattle.transfer.specs.declared.Point.{Point}
 use Rattle.i2c.specs.Limits.{refused-over}
 use Rattle.i2c.proofs.Listed.{Left}
 use Rattle.i2c.proofs.Transfers.{read-transfer, write-transfer, write-read-transfer, transaction-transfer}

@@ -7,9 +7,9 @@ use Rattle.master.specs.Driver.{Tried, try}
 use Rattle.master.specs.Async.{wait-stop-det}
 use Rattle.transfer.specs.Points.{with-point}
 use Rattle.transfer.specs.Machine.{wait-stop, moved-to, begun}
-use Rattle.transfer.specs.declared.points.Transfer.{Transfer}
-use Rattle.transfer.specs.declared.points.Tried as T
-use Rattle.transfer.specs.declared.points.Point.{Point}
+use Rattle.transfer.specs.declared.Transfer.{Transfer}
+use Rattle.transfer.specs.declared.Tried as T
+use Rattle.transfer.specs.declared.Point.{Point}
 use Rattle.i2c.proofs.Basics.{Agrees, as-tried, fails, stops-agree}
 
 -- what follows the loop of a transfer, over what follows the operation

@@ -18,8 +18,8 @@ use Rattle.master.specs.Operations.{listed, total, known, READ, WRITE}
 use Rattle.master.specs.Transfer.{each-operation}
 use Rattle.transfer.specs.Points.{with-point, mode-of}
 use Rattle.transfer.specs.Machine.{machine, next-at, opened, opened-write, opened-read, begun, sum-of}
-use Rattle.transfer.specs.declared.points.Transfer.{Transfer}
-use Rattle.transfer.specs.declared.points.Point.{Point}
+use Rattle.transfer.specs.declared.Transfer.{Transfer}
+use Rattle.transfer.specs.declared.Point.{Point}
 use Rattle.i2c.proofs.Basics.{by-test, sum-is, M, Agrees}
 use Rattle.i2c.proofs.Bytes.{Held}
 use Rattle.i2c.proofs.Operations.{read-agrees, write-agrees}

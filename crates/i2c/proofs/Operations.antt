@@ -18,10 +18,10 @@ use Rattle.master.specs.Operations.{Operation, writes, reads}
 use Rattle.master.specs.Transfer.{read-internal, write-internal, each-operation}
 use Rattle.transfer.specs.Points.{with-point, mode-of}
 use Rattle.transfer.specs.Machine.{machine, next-at, write-point, read-point, some-read, opened, opened-write, opened-read, begun, sum-of}
-use Rattle.transfer.specs.declared.points.Transfer.{Transfer}
-use Rattle.transfer.specs.declared.points.Mode.{Mode}
-use Rattle.transfer.specs.declared.points.Mode.the-variants.{Blocking, Async}
-use Rattle.transfer.specs.declared.points.Point.{Point}
+use Rattle.transfer.specs.declared.Transfer.{Transfer}
+use Rattle.transfer.specs.declared.Mode.{Mode}
+use Rattle.transfer.specs.declared.Mode.the-variants.{Blocking, Async}
+use Rattle.transfer.specs.declared.Point.{Point}
 use Rattle.i2c.proofs.Basics.{by-test, sum-is, M, Agrees}
 use Rattle.i2c.proofs.Bytes.{Held}
 use Rattle.i2c.proofs.EndAsync.{Good}

@@ -18,15 +18,15 @@ use Rattle.master.specs.Driver.{tx-fifo-capacity, rx-fifo-len}
 use Rattle.master.specs.Async.{Counts, queue-batch, batch-poll, fetch-bytes, take-batch, read-round, read-async-internal}
 use Rattle.transfer.specs.Points.{with-point}
 use Rattle.transfer.specs.Machine.{next-at, next-round, next-wait, queue-word, store-at, store-round, step-of, step-round, step-wait, places, batch-step, queued, next-turn, fetching, returned, mask-for, poll-point, some-read, moved-to}
-use Rattle.transfer.specs.declared.points.Transfer.{Transfer}
-use Rattle.transfer.specs.declared.points.Round.{Round}
-use Rattle.transfer.specs.declared.points.Mode.the-variants.{Async}
-use Rattle.transfer.specs.declared.points.Tried.the-variants.{Fine, Failed}
-use Rattle.transfer.specs.declared.points.Caller.the-variants as C
-use Rattle.transfer.specs.declared.points.RoundPoint.the-variants as Q
-use Rattle.transfer.specs.declared.points.Poll.the-variants as O
-use Rattle.transfer.specs.declared.points.Point.{Point}
-use Rattle.transfer.specs.declared.points.Point.the-variants.{ReadAsync}
+use Rattle.transfer.specs.declared.Transfer.{Transfer}
+use Rattle.transfer.specs.declared.Round.{Round}
+use Rattle.transfer.specs.declared.Mode.the-variants.{Async}
+use Rattle.transfer.specs.declared.Tried.the-variants.{Fine, Failed}
+use Rattle.transfer.specs.declared.Caller.the-variants as C
+use Rattle.transfer.specs.declared.RoundPoint.the-variants as Q
+use Rattle.transfer.specs.declared.Poll.the-variants as O
+use Rattle.transfer.specs.declared.Point.{Point}
+use Rattle.transfer.specs.declared.Point.the-variants.{ReadAsync}
 use Rattle.i2c.proofs.Basics.{by-test, sum-is, M, Agrees, reason-agrees, pend-agrees}
 use Rattle.i2c.proofs.EndAsync.{Good, ending, ending-agrees}
 

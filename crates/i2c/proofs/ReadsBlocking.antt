@@ -16,11 +16,11 @@ use Rattle.master.specs.Driver.{tx-fifo-full, tx-fifo-capacity, rx-fifo-len, wh
 use Rattle.master.specs.Blocking.{read-blocking-bytes, read-blocking-internal}
 use Rattle.transfer.specs.Points.{with-point}
 use Rattle.transfer.specs.Machine.{machine, next-at, next-read, read-word, store-at, store-read, step-of, step-read, room-step, level-step, places, returned, after-byte, moved-to, begun}
-use Rattle.transfer.specs.declared.points.Transfer.{Transfer}
-use Rattle.transfer.specs.declared.points.ReadPoint.the-variants as R
-use Rattle.transfer.specs.declared.points.Caller.the-variants as C
-use Rattle.transfer.specs.declared.points.Point.{Point}
-use Rattle.transfer.specs.declared.points.Point.the-variants.{ReadBlocking}
+use Rattle.transfer.specs.declared.Transfer.{Transfer}
+use Rattle.transfer.specs.declared.ReadPoint.the-variants as R
+use Rattle.transfer.specs.declared.Caller.the-variants as C
+use Rattle.transfer.specs.declared.Point.{Point}
+use Rattle.transfer.specs.declared.Point.the-variants.{ReadBlocking}
 use Rattle.i2c.proofs.Basics.{by-test, sum-is, M, Agrees, fails, reason-agrees}
 
 module _ (kinds lengths bytes : List ℕ) (t : Transfer) (small : t .at + t .len ≤ 4096) (k : Unit {0} → Behaviour (Unit {0}) Answer) (top n : ℕ)

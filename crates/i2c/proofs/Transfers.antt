@@ -19,10 +19,10 @@ use Rattle.master.specs.Operations.{read, write, write-read, transaction, liste
 use Rattle.master.specs.Transfer.{blocking-read, read-async, blocking-write, write-async, blocking-write-read, write-read-async, blocking-transaction, transaction-async, each-operation, read-internal, write-internal, transfer}
 use Rattle.transfer.specs.Points.{with-point, mode-of}
 use Rattle.transfer.specs.Machine.{machine, next-at, first-point, tested-point, started, opened, opened-write, opened-read, begun}
-use Rattle.transfer.specs.declared.points.Transfer.{Transfer}
-use Rattle.transfer.specs.declared.points.Mode.{Mode}
-use Rattle.transfer.specs.declared.points.Mode.the-variants.{Blocking, Async}
-use Rattle.transfer.specs.declared.points.Point.{Point}
+use Rattle.transfer.specs.declared.Transfer.{Transfer}
+use Rattle.transfer.specs.declared.Mode.{Mode}
+use Rattle.transfer.specs.declared.Mode.the-variants.{Blocking, Async}
+use Rattle.transfer.specs.declared.Point.{Point}
 use Rattle.i2c.proofs.Basics.{by-test, M, Agrees, setup-agrees}
 use Rattle.i2c.proofs.Operations.{read-agrees, write-agrees}
 use Rattle.i2c.proofs.Listed.{Left, last-listed, operations-agree}

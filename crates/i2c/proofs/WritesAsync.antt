@@ -17,14 +17,14 @@ use Rattle.master.specs.Driver.{tx-fifo-capacity, tx-fifo-full}
 use Rattle.master.specs.Async.{fill, space-poll, go-on, wait-space, write-async-internal}
 use Rattle.transfer.specs.Points.{with-point}
 use Rattle.transfer.specs.Machine.{next-at, next-fill, next-wait, fill-word, store-at, step-of, step-fill, step-wait, places, free-step, full-step, filling, after-index, returned, mask-for, poll-point, moved-to}
-use Rattle.transfer.specs.declared.points.Transfer.{Transfer}
-use Rattle.transfer.specs.declared.points.Tried.the-variants.{Fine, Failed}
-use Rattle.transfer.specs.declared.points.Caller.the-variants as C
-use Rattle.transfer.specs.declared.points.AbortPoint.the-variants as A
-use Rattle.transfer.specs.declared.points.FillPoint.the-variants as F
-use Rattle.transfer.specs.declared.points.Poll.the-variants as O
-use Rattle.transfer.specs.declared.points.Point.{Point}
-use Rattle.transfer.specs.declared.points.Point.the-variants.{Abort, WriteAsync}
+use Rattle.transfer.specs.declared.Transfer.{Transfer}
+use Rattle.transfer.specs.declared.Tried.the-variants.{Fine, Failed}
+use Rattle.transfer.specs.declared.Caller.the-variants as C
+use Rattle.transfer.specs.declared.AbortPoint.the-variants as A
+use Rattle.transfer.specs.declared.FillPoint.the-variants as F
+use Rattle.transfer.specs.declared.Poll.the-variants as O
+use Rattle.transfer.specs.declared.Point.{Point}
+use Rattle.transfer.specs.declared.Point.the-variants.{Abort, WriteAsync}
 use Rattle.i2c.proofs.Basics.{by-test, M, Agrees, reason-agrees, pend-agrees}
 use Rattle.i2c.proofs.Bytes.{Held, held-head, held-end, held-last}
 use Rattle.i2c.proofs.EndAsync.{Good, ending, ending-agrees}

@@ -17,14 +17,14 @@ use Rattle.master.specs.Driver.{Tried, is-err, try}
 use Rattle.master.specs.Blocking.{write-blocking-bytes, write-blocking-internal}
 use Rattle.transfer.specs.Points.{with-point}
 use Rattle.transfer.specs.Machine.{machine, next-at, next-write, next-stop, write-word, store-at, step-of, step-write, step-stop, closes, returned, after-byte, try-step, moved-to, begun}
-use Rattle.transfer.specs.declared.points.Transfer.{Transfer}
-use Rattle.transfer.specs.declared.points.Tried as T
-use Rattle.transfer.specs.declared.points.Tried.the-variants.{Fine, Failed}
-use Rattle.transfer.specs.declared.points.WritePoint.the-variants as W
-use Rattle.transfer.specs.declared.points.StopPoint.the-variants as S
-use Rattle.transfer.specs.declared.points.Caller.the-variants as C
-use Rattle.transfer.specs.declared.points.Point.{Point}
-use Rattle.transfer.specs.declared.points.Point.the-variants.{WriteBlocking, Stop}
+use Rattle.transfer.specs.declared.Transfer.{Transfer}
+use Rattle.transfer.specs.declared.Tried as T
+use Rattle.transfer.specs.declared.Tried.the-variants.{Fine, Failed}
+use Rattle.transfer.specs.declared.WritePoint.the-variants as W
+use Rattle.transfer.specs.declared.StopPoint.the-variants as S
+use Rattle.transfer.specs.declared.Caller.the-variants as C
+use Rattle.transfer.specs.declared.Point.{Point}
+use Rattle.transfer.specs.declared.Point.the-variants.{WriteBlocking, Stop}
 use Rattle.i2c.proofs.Basics.{by-test, as-tried, M, Agrees, fails, reason-agrees}
 use Rattle.i2c.proofs.Bytes.{Held, held-head, held-end}
 

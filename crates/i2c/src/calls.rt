@@ -4,7 +4,7 @@ use super::limits::is_fitting;
 use super::limits::is_listed;
 use super::limits::refuse;
 use regs::access::Ran;
-use transfer::points::Mode;
+use transfer::Mode;
 use transfer_run::drive;
 ghost use mathlib.Core.List.{[]};
 ghost use lib.ListN.{length};
@@ -20,7 +20,7 @@ fn read_by(mode: Mode, address: u16, read: &mut [u8], readings: &[u32], log: &mu
     if is_fitting(n) {
         let kinds = [0u8];
         let lengths = [n as u16];
-        let t = transfer::start(mode, true, address, &kinds);
+        let t = transfer_steps::start(mode, true, address, &kinds);
         drive(t, &kinds, &lengths, b"", readings, log, read)
     } else {
         refuse()
@@ -35,7 +35,7 @@ fn write_by(mode: Mode, address: u16, write: &[u8], readings: &[u32], log: &mut 
         let kinds = [1u8];
         let lengths = [n as u16];
         let mut none = [0u8; 0];
-        let t = transfer::start(mode, true, address, &kinds);
+        let t = transfer_steps::start(mode, true, address, &kinds);
         drive(t, &kinds, &lengths, write, readings, log, &mut none)
     } else {
         refuse()
@@ -57,7 +57,7 @@ fn write_read_by(
     if are_fitting(m, n) {
         let kinds = [1u8, 0u8];
         let lengths = [m as u16, n as u16];
-        let t = transfer::start(mode, true, address, &kinds);
+        let t = transfer_steps::start(mode, true, address, &kinds);
         drive(t, &kinds, &lengths, write, readings, log, read)
     } else {
         refuse()
@@ -77,7 +77,7 @@ fn transaction_by(
     ensures { λ r. ⌜ LeavesBuffer (expected (transaction-call (mode-of mode) address (now (kinds .entry)) (now (lengths .entry)) (now (write .entry)) (length (now (read .entry)))) (now (log .entry)) (now (readings .entry)) (now (read .entry)) tt) (now (log .entry)) (now (log .exit)) (now (read .exit)) r ⌝ }
 {
     if is_listed(kinds, lengths, write.len(), read.len()) {
-        let t = transfer::start(mode, false, address, kinds);
+        let t = transfer_steps::start(mode, false, address, kinds);
         drive(t, kinds, lengths, write, readings, log, read)
     } else {
         refuse()

@@ -17,38 +17,38 @@ use Rattle.regs.specs.declared.access.Store.{Store}
 use Rattle.regs.specs.declared.access.Store.the-variants.{Nothing, Byte}
 use Rattle.master.specs.Driver.{reason-of}
 use Rattle.transfer.specs.Points.{with-point, has-failed}
-use Rattle.transfer.specs.declared.points.Mode.{Mode}
-use Rattle.transfer.specs.declared.points.Mode.the-variants.{Blocking, Async}
-use Rattle.transfer.specs.declared.points.Tried.{Tried}
-use Rattle.transfer.specs.declared.points.Tried.the-variants.{Fine, Failed}
-use Rattle.transfer.specs.declared.points.Round.{Round}
-use Rattle.transfer.specs.declared.points.SetupPoint.{SetupPoint}
-use Rattle.transfer.specs.declared.points.SetupPoint.the-variants.{Disable, Target, Enable}
-use Rattle.transfer.specs.declared.points.AbortPoint.{AbortPoint}
-use Rattle.transfer.specs.declared.points.AbortPoint.the-variants as A
-use Rattle.transfer.specs.declared.points.Caller.{Caller}
-use Rattle.transfer.specs.declared.points.Caller.the-variants as C
-use Rattle.transfer.specs.declared.points.ReadPoint.{ReadPoint}
-use Rattle.transfer.specs.declared.points.ReadPoint.the-variants as R
-use Rattle.transfer.specs.declared.points.WritePoint.{WritePoint}
-use Rattle.transfer.specs.declared.points.WritePoint.the-variants as W
-use Rattle.transfer.specs.declared.points.RoundPoint.{RoundPoint}
-use Rattle.transfer.specs.declared.points.RoundPoint.the-variants as Q
-use Rattle.transfer.specs.declared.points.FillPoint.{FillPoint}
-use Rattle.transfer.specs.declared.points.FillPoint.the-variants as F
-use Rattle.transfer.specs.declared.points.Poll.{Poll}
-use Rattle.transfer.specs.declared.points.Poll.the-variants as O
-use Rattle.transfer.specs.declared.points.WaitPoint.{WaitPoint}
-use Rattle.transfer.specs.declared.points.WaitPoint.the-variants as M
-use Rattle.transfer.specs.declared.points.StopPoint.{StopPoint}
-use Rattle.transfer.specs.declared.points.StopPoint.the-variants as S
-use Rattle.transfer.specs.declared.points.Point.{Point}
-use Rattle.transfer.specs.declared.points.Point.the-variants.{Setup, Abort, ReadBlocking, WriteBlocking, ReadAsync, WriteAsync, Wait, Stop, Finished}
-use Rattle.transfer.specs.declared.points.Step.{Step}
-use Rattle.transfer.specs.declared.points.Step.the-variants.{Go, Done}
-use Rattle.transfer.specs.declared.points.Transfer.{Transfer}
-use Rattle.transfer.specs.declared.moves.Capacity.{Capacity}
-use Rattle.transfer.specs.declared.moves.Capacity.the-variants.{Places, TooHigh}
+use Rattle.transfer.specs.declared.Mode.{Mode}
+use Rattle.transfer.specs.declared.Mode.the-variants.{Blocking, Async}
+use Rattle.transfer.specs.declared.Tried.{Tried}
+use Rattle.transfer.specs.declared.Tried.the-variants.{Fine, Failed}
+use Rattle.transfer.specs.declared.Round.{Round}
+use Rattle.transfer.specs.declared.SetupPoint.{SetupPoint}
+use Rattle.transfer.specs.declared.SetupPoint.the-variants.{Disable, Target, Enable}
+use Rattle.transfer.specs.declared.AbortPoint.{AbortPoint}
+use Rattle.transfer.specs.declared.AbortPoint.the-variants as A
+use Rattle.transfer.specs.declared.Caller.{Caller}
+use Rattle.transfer.specs.declared.Caller.the-variants as C
+use Rattle.transfer.specs.declared.ReadPoint.{ReadPoint}
+use Rattle.transfer.specs.declared.ReadPoint.the-variants as R
+use Rattle.transfer.specs.declared.WritePoint.{WritePoint}
+use Rattle.transfer.specs.declared.WritePoint.the-variants as W
+use Rattle.transfer.specs.declared.RoundPoint.{RoundPoint}
+use Rattle.transfer.specs.declared.RoundPoint.the-variants as Q
+use Rattle.transfer.specs.declared.FillPoint.{FillPoint}
+use Rattle.transfer.specs.declared.FillPoint.the-variants as F
+use Rattle.transfer.specs.declared.Poll.{Poll}
+use Rattle.transfer.specs.declared.Poll.the-variants as O
+use Rattle.transfer.specs.declared.WaitPoint.{WaitPoint}
+use Rattle.transfer.specs.declared.WaitPoint.the-variants as M
+use Rattle.transfer.specs.declared.StopPoint.{StopPoint}
+use Rattle.transfer.specs.declared.StopPoint.the-variants as S
+use Rattle.transfer.specs.declared.Point.{Point}
+use Rattle.transfer.specs.declared.Point.the-variants.{Setup, Abort, ReadBlocking, WriteBlocking, ReadAsync, WriteAsync, Wait, Stop, Finished}
+use Rattle.transfer.specs.declared.Step.{Step}
+use Rattle.transfer.specs.declared.Step.the-variants.{Go, Done}
+use Rattle.transfer.specs.declared.Transfer.{Transfer}
+use Rattle.transfer.specs.declared.counts.Capacity.{Capacity}
+use Rattle.transfer.specs.declared.counts.Capacity.the-variants.{Places, TooHigh}
 
 -- ---- the accesses
 

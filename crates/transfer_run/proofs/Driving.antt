@@ -13,7 +13,7 @@ use Rattle.regs.specs.declared.access.Performed.the-variants as P
 use Rattle.regs.proofs.Unroll.{at-stop, at-access, has-room}
 use Rattle.regs.proofs.Refine.{length-stored}
 use Rattle.transfer.specs.Machine.{machine, next-of, store-of, advance-of}
-use Rattle.transfer.specs.declared.points.Transfer.{Transfer}
+use Rattle.transfer.specs.declared.Transfer.{Transfer}
 use Rattle.transfer_run.specs.Steps.{Steps, stepped, buffer-after}
 use Rattle.transfer_run.specs.declared.Stepped.{Stepped}
 use Rattle.transfer_run.specs.declared.Stepped.the-variants.{On, Stopped}

@@ -7,7 +7,7 @@ use Rattle.regs.specs.Machine.{performed, log-after, stored-in}
 use Rattle.regs.specs.declared.access.Performed.{Performed}
 use Rattle.regs.specs.declared.access.Performed.the-variants as P
 use Rattle.transfer.specs.Machine.{next-of, store-of, advance-of}
-use Rattle.transfer.specs.declared.points.Transfer.{Transfer}
+use Rattle.transfer.specs.declared.Transfer.{Transfer}
 use Rattle.transfer_run.specs.declared.Stepped.{Stepped}
 use Rattle.transfer_run.specs.declared.Stepped.the-variants.{On, Stopped}
 

@@ -3,9 +3,9 @@
 use regs::access::Performed;
 use regs::access::Ran;
 use regs::answers::Reply;
-use transfer::points::FillPoint;
-use transfer::points::Point;
-use transfer::points::Transfer;
+use transfer::FillPoint;
+use transfer::Point;
+use transfer::Transfer;
 ghost use mathlib.Core.Path.{_≡_};
 ghost use Prim.Native.Nat.{_/_};
 ghost use lib.ListN.{length};
@@ -32,12 +32,12 @@ fn step(
 ) -> Stepped
     ensures { λ r. ⌜ Steps (now (kinds .entry)) (now (lengths .entry)) (now (bytes .entry)) (now (readings .entry)) (now (log .entry)) (now (buffer .entry)) (now (log .exit)) (now (buffer .exit)) t used entries r ⌝ }
 {
-    let n = transfer::next_access(t, bytes);
+    let n = transfer_access::next_access(t, bytes);
     match regs::access::perform(n, readings, used, log, entries) {
         Performed::Stopped(r) => Stepped::Stopped(r),
         Performed::Did(v, u) => {
-            regs::access::keep(buffer, transfer::store(t, v));
-            Stepped::On(transfer::advance(t, v, kinds, lengths), u)
+            regs::access::keep(buffer, transfer_access::store(t, v));
+            Stepped::On(transfer_steps::advance(t, v, kinds, lengths), u)
         }
     }
 }
@@ -67,11 +67,11 @@ fn has_ended(t: Transfer) -> bool {
     let p = t.point;
     match p {
         Point::Abort(_, caller) => match caller {
-            transfer::points::Caller::Space(_) => false,
-            transfer::points::Caller::Read(_) => true,
-            transfer::points::Caller::Write(_) => true,
-            transfer::points::Caller::Batch(_, _) => true,
-            transfer::points::Caller::Stop(_) => true,
+            transfer::Caller::Space(_) => false,
+            transfer::Caller::Read(_) => true,
+            transfer::Caller::Write(_) => true,
+            transfer::Caller::Batch(_, _) => true,
+            transfer::Caller::Stop(_) => true,
         },
         Point::WriteAsync(_) => false,
         Point::Setup(_) => true,

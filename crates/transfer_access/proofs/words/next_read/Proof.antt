@@ -1,0 +1,50 @@
+-- `transfer_access::words::next_read` meets its contract.
+use Rattle.transfer.specs.Machine.{next-read}
+use borrow.Author.Needs.{needs}
+use Rattle.transfer_access.proofs.words.next_read.Statement.{statement}
+use Rattle.transfer_access.proofs.words.next_read.Tie as tie
+
+enum-told : tie.Need-enum-told
+enum-told c = search needs
+
+enum-known-p : tie.Need-enum-known-p
+enum-known-p c = search needs
+
+word-of-read-requires : tie.Need-word-of-read-requires
+word-of-read-requires c κs = search needs
+
+enum-told-2 : tie.Need-enum-told-2
+enum-told-2 c = search needs
+
+enum-told-3 : tie.Need-enum-told-3
+enum-told-3 c = search needs
+
+returns : tie.Need-returns
+unfolding next-read
+returns c = simp (c .enum-told .given .1)
+
+returns-2 : tie.Need-returns-2
+unfolding next-read
+returns-2 c = simp (c .before .before .p .given .1, c .word-of-read .ensures)
+
+returns-3 : tie.Need-returns-3
+unfolding next-read
+returns-3 c = simp (c .enum-told2 .given .1)
+
+returns-4 : tie.Need-returns-4
+unfolding next-read
+returns-4 c = simp (c .enum-told3 .given .1)
+
+pub next-read-spec : {M : Type 1} → statement M
+next-read-spec =
+    tie.close
+    (tie.spec
+    enum-told
+    enum-known-p
+    word-of-read-requires
+    enum-told-2
+    enum-told-3
+    returns
+    returns-2
+    returns-3
+    returns-4)

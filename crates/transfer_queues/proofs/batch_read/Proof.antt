@@ -1,0 +1,27 @@
+-- `transfer_queues::batch_read` meets its contract.
+use Rattle.transfer.specs.Machine.{returned}
+use borrow.Author.Tests.{le-ltb, lt-ltb}
+use borrow.Author.Needs.{needs}
+use Rattle.transfer_queues.proofs.batch_read.Statement.{statement}
+use Rattle.transfer_queues.proofs.batch_read.Tie as tie
+
+returns : tie.Need-returns
+unfolding returned
+returns c = simp (lt-ltb _ _ (c .if1 .taken))
+
+smaller-requires : tie.Need-smaller-requires
+smaller-requires c κs = search needs
+
+difference-requires : tie.Need-difference-requires
+difference-requires c κs = search needs
+
+fetch-requires : tie.Need-fetch-requires
+fetch-requires c κs = search needs
+
+returns-2 : tie.Need-returns-2
+unfolding returned
+returns-2 c = simp (le-ltb _ _ (c .before .before .before .if1 .left), c .before .before .smaller .ensures, c .before .difference .ensures, c .fetch .ensures)
+
+pub batch-read-spec : {M : Type 1} → statement M
+batch-read-spec =
+    tie.close (tie.spec returns smaller-requires difference-requires fetch-requires returns-2)

@@ -1,0 +1,41 @@
+-- `transfer_steps::begin` meets its contract.
+use Rattle.transfer.specs.Machine.{begun}
+use borrow.Author.Tests.{le-ltb, lt-ltb}
+use borrow.Author.Needs.{needs}
+use Rattle.transfer_steps.proofs.begin.Statement.{statement}
+use Rattle.transfer_steps.proofs.begin.Tie as tie
+
+add-n : tie.Need-add-n
+add-n c = search needs
+
+kind-at-requires : tie.Need-kind-at-requires
+kind-at-requires c κs = search needs
+
+length-at-requires : tie.Need-length-at-requires
+length-at-requires c κs = search needs
+
+open-requires : tie.Need-open-requires
+open-requires c κs = search needs
+
+at-point-requires : tie.Need-at-point-requires
+at-point-requires c κs = search needs
+
+returns : tie.Need-returns
+unfolding begun
+returns c = simp (lt-ltb _ _ (c .before .before .before .if1 .taken), c .before .before .kind-at .ensures, c .before .length-at .ensures, c .«open» .ensures)
+
+returns-2 : tie.Need-returns-2
+unfolding begun
+returns-2 c = simp (le-ltb _ _ (c .before .if1 .left), c .at-point .ensures)
+
+pub begin-spec : {M : Type 1} → statement M
+begin-spec =
+    tie.close
+    (tie.spec
+    add-n
+    kind-at-requires
+    length-at-requires
+    open-requires
+    at-point-requires
+    returns
+    returns-2)
