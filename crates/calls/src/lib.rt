@@ -1,20 +1,7 @@
-// Calls of the replay: each runs its driver on the readings, and prints the log, the read or listen buffer, and the reply.
+// Calls of the replay: what a call is, and what a run left, printed.
 pub mod outcome; // what a run left, printed
-pub mod transfers; // the master's transfers
-pub mod slave; // the slave's calls
 
-use frames_text::print;
-use outcome::push_outcome;
 use slave_state::SlaveState;
-ghost use mathlib.Core.Path.{_≡_};
-ghost use mathlib.Core.Bool.{true, false};
-ghost use mathlib.Core.List.{[]};
-ghost use Prim.Native.Nat.{_+_, _≤_};
-ghost use lib.ListN.{length};
-ghost use Rattle.clock.specs.SetConfig.{set-config};
-ghost use Rattle.frames_text.specs.Appended.{Appended};
-ghost use Rattle.calls.specs.Calls.{listed, replayed, outcome-text};
-ghost use Rattle.calls.specs.Runs.{LOG-WORDS, MOST-TEXT, Runs, listened, Ran-as};
 
 // A call as its call frame gives it. The operations of a transfer and the bytes of a response stand beside it.
 pub enum Call {
@@ -41,92 +28,3 @@ pub const MOST_READINGS: usize = 8192;
 
 // The bytes of the largest answer to a call.
 pub const MOST_TEXT: usize = 114704;
-
-// A listen buffer above 4,096 bytes is refused with 20.
-fn listen(
-    n: u16,
-    buffer: &mut [u8],
-    s: SlaveState,
-    readings: &[u32],
-    log: &mut [u32],
-    out: &mut [u8],
-    at: usize,
-) -> Done
-    requires { ⌜ (length (now buffer) ≡ 4096) × (length (now log) ≡ LOG-WORDS) × (at + MOST-TEXT ≤ length (now out)) ⌝ }
-    ensures { λ r. ⌜ Runs true (listened n (now (readings .entry)) s) (now (out .entry)) at (now (out .exit)) r ⌝ }
-{
-    let places = n as usize;
-    if 4096 < places {
-        let end = print::push_answer(out, at, 20, 0);
-        return Done { slave: s, end };
-    }
-    slave::listen(&mut buffer[..places], s, readings, log, out, at)
-}
-
-fn set_config(
-    frequency: u32,
-    clk: u32,
-    readings: &[u32],
-    log: &mut [u32],
-    out: &mut [u8],
-    at: usize,
-) -> usize
-    requires { ⌜ (length (now log) ≡ LOG-WORDS) × (at + MOST-TEXT ≤ length (now out)) ⌝ }
-    ensures { λ r. ⌜ Appended (now (out .entry)) at (outcome-text false (replayed (set-config frequency clk) (now (readings .entry)) [] tt)) MOST-TEXT (now (out .exit)) r ⌝ }
-{
-    let ran = clock::set_config(frequency, clk, readings, log);
-    push_outcome(out, at, log, ran, false, b"")
-}
-
-// Runs a call that is within the limits.
-pub fn run(
-    call: Call,
-    kinds: &[u8],
-    lengths: &[u16],
-    bytes: &[u8],
-    reads: usize,
-    readings: &[u32],
-    s: SlaveState,
-    buffer: &mut [u8],
-    log: &mut [u32],
-    out: &mut [u8],
-    at: usize,
-) -> Done
-    requires { ⌜ (reads ≤ 4096) × (length (now buffer) ≡ 4096) × (length (now log) ≡ LOG-WORDS) × (at + MOST-TEXT ≤ length (now out)) ⌝ }
-    ensures { λ r. ⌜ Ran-as call (listed (now (kinds .entry)) (now (lengths .entry)) (now (bytes .entry)) reads) (now (readings .entry)) s (now (out .entry)) at (now (out .exit)) r ⌝ }
-{
-    match call {
-        Call::Clock(frequency, clk) => {
-            let end = set_config(frequency, clk, readings, log, out, at);
-            Done { slave: s, end }
-        }
-        Call::Master(form, address) => {
-            let end = transfers::transfer(
-                form,
-                address,
-                kinds,
-                lengths,
-                bytes,
-                &mut buffer[..reads],
-                readings,
-                log,
-                out,
-                at,
-            );
-            Done { slave: s, end }
-        }
-        Call::Reset(address, general) => slave::reset(address, general, s, readings, log, out, at),
-        Call::Listen(n) => listen(n, buffer, s, readings, log, out, at),
-        Call::Respond => slave::respond(bytes, s, readings, log, out, at),
-        Call::Fill(fill) => slave::fill(fill, s, readings, log, out, at),
-        Call::RespondAndFill(fill) => slave::respond_and_fill(
-            bytes,
-            fill,
-            s,
-            readings,
-            log,
-            out,
-            at,
-        ),
-    }
-}

@@ -6,7 +6,8 @@ use mathlib.Core.Path.{_≡_, refl, sym, ap, _∙_}
 use lib.ListN.{take, drop}
 use Rattle.session.specs.Session.{printed}
 use Rattle.session.proofs.Bound.{same-printed}
-use Rattle.frames.specs.Rest.{Whole, rest, FedAs, Finished, start-state}
+use Rattle.reader.specs.Rest.{Whole, rest}
+use Rattle.frames.specs.Fed.{FedAs, Finished, start-state}
 
 -- calls of `feed` one after the other, by their contract: from v, reading `input`, to w, with `text` written. What a call left of its chunk is fed again.
 pub data Reads : Whole → List ℕ → Whole → List ℕ → Type 0 where

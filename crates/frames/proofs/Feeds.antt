@@ -18,9 +18,10 @@ use Rattle.session.specs.Session.{refusal, printed-from}
 use Rattle.session.specs.Bounded.{Held, next-held, holds-call}
 use Rattle.session.specs.Enter.{session-of, LONGEST-KEPT}
 use Rattle.session.proofs.Bound.{false-true}
-use Rattle.frames.specs.Rest.{Whole, rest, rest-of, from-line, digits-more, Sound, Went, FedAs, Finished, begun-of, stopped-of, end-text}
-use Rattle.frames.specs.declared.Part.{Part}
-use Rattle.frames.specs.declared.Part.the-variants.{Stopped, Text, Long}
+use Rattle.reader.specs.Rest.{Whole, rest, rest-of, from-line, digits-more, Sound, Went, begun-of, stopped-of, end-text}
+use Rattle.frames.specs.Fed.{FedAs, Finished}
+use Rattle.reader.specs.declared.Part.{Part}
+use Rattle.reader.specs.declared.Part.the-variants.{Stopped, Text, Long}
 
 -- a byte of a chunk
 pub byte-read : {v w : Whole} {out₀ out : List ℕ} {at end x : ℕ} (chunk : List ℕ) (i : ℕ) → i < length chunk → x ≡ getD chunk i 0

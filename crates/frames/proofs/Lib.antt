@@ -1,6 +1,4 @@
 -- What the proofs of the functions cite, and the claim over them.
-pub mod Lines
-pub mod Long
-pub mod Steps
+pub mod Scans
 pub mod Feeds
 pub mod EverySplit

@@ -1,2 +1,2 @@
--- What the replay reads and prints.
-pub mod Rest
+-- What the reader, fed in chunks, has read and printed.
+pub mod Fed

@@ -1,9 +1,9 @@
 // Whole lines of a chunk, which are read where they stand.
-use super::Part;
+use reader::Part;
 ghost use mathlib.Core.Path.{_≡_};
 ghost use Prim.Native.Nat.{_<_, _≤_};
 ghost use lib.ListN.{length};
-ghost use Rattle.frames.specs.Rest.{Ahead};
+ghost use Rattle.reader.specs.Rest.{Ahead};
 
 // How many bytes from i on are a whole line before its LF; 8,199 where they are more than are kept or the chunk ends before.
 fn line_ahead(chunk: &[u8], i: usize) -> usize

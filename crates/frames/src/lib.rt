@@ -1,65 +1,30 @@
 // The replay's reader: bytes in chunks of any size, calls run in order, answers out, in lent slices of fixed size.
 pub mod ahead; // whole lines of a chunk
-pub mod turns; // one byte
 
 use ahead::fresh_line;
 use frames_text::print;
-use session::Open;
+use reader::Part;
+use reader::State;
+use reader::fresh_slave;
+use reader::turns::end_line;
+use reader::turns::line_feed;
+use reader::turns::one;
 use session::enter::closed;
-use session::enter::enter_line;
-use slave_state::Pending;
-use slave_state::SlaveState;
-use turns::end_line;
-use turns::line_feed;
-use turns::one;
+use session_lines::enter_line;
 ghost use mathlib.Core.Path.{_≡_};
 ghost use mathlib.Core.List.{[]};
 ghost use Prim.Native.Nat.{_+_, _<_, _≤_};
 ghost use lib.ListN.{length, drop};
 ghost use Rattle.frames_text.specs.Appended.{Appended};
 ghost use Rattle.calls.specs.Runs.{MOST-TEXT};
-ghost use Rattle.session.specs.Session.{fresh};
-ghost use Rattle.frames.specs.Rest.{whole, Sound, Went, FedAs, Finished, stopped-of, start-state, begun-of, end-text};
-
-// Where the reader is: past a malformed line; in a line of which n bytes are kept; or in a line of bytes that is longer than what is kept, with a digit waiting or not.
-pub enum Part {
-    Stopped,
-    Text(usize),
-    Long(bool),
-}
-
-// So many bytes of a line are kept.
-pub const LONGEST_KEPT: usize = 8198;
-
-pub struct State {
-    pub line: u32,
-    pub part: Part,
-    pub call: Open,
-    pub slave: SlaveState,
-}
-
-// The state after a step, and where the answers in `out` end.
-pub struct Turn {
-    pub state: State,
-    pub made: usize,
-}
+ghost use Rattle.reader.specs.Rest.{whole, Sound, Went, stopped-of, begun-of, end-text};
+ghost use Rattle.frames.specs.Fed.{start-state, FedAs, Finished};
 
 // The state after some of a chunk, how much of it was read, and where the answers in `out` end.
 pub struct Fed {
     pub state: State,
     pub used: usize,
     pub made: usize,
-}
-
-// The slave before any call.
-fn fresh_slave() -> SlaveState
-    ensures { λ r. ⌜ r ≡ fresh ⌝ }
-{
-    SlaveState {
-        pending_byte: Pending::None,
-        address: 0,
-        general_call: false,
-    }
 }
 
 // A whole line of the chunk, where one is ahead, or else a byte.

@@ -107,7 +107,7 @@ fn write_taken(w: Wants) -> Took
     }
 }
 
-fn is_complete(w: Wants) -> bool
+pub fn is_complete(w: Wants) -> bool
     ensures { λ r. ⌜ r ≡ complete w ⌝ }
 {
     match w {

@@ -3,7 +3,7 @@ use mathlib.Core.Path.{_≡_, refl, _∙_}
 use Prim.Native.Nat.{_+_, _-_}
 use native.Mathlib.Omega.{arith}
 use Rattle.session.specs.Enter.{arrays}
-use Rattle.frames.proofs.Steps.{ahead-short, line-read}
+use Rattle.reader.proofs.Steps.{ahead-short, line-read}
 use Rattle.frames.proofs.Feeds.{byte-read}
 use borrow.Author.Needs.{needs}
 use Rattle.frames.proofs.step.Statement.{statement}

@@ -1,26 +1,20 @@
+-- `lines::byte_at` meets its contract.
 use native.Mathlib.Omega.{arith}
 use Rattle.lines.proofs.Lengths.{none-at}
 use borrow.Author.Tests.{le-ltb, lt-ltb}
 use borrow.Author.Needs.{needs}
 use Rattle.lines.proofs.byte_at.Statement.{statement}
 use Rattle.lines.proofs.byte_at.Tie as tie
-use Rattle.lines.proofs.byte_at.Reads as reads
-use Rattle.lines.proofs.byte_at.Lts as lts
-use Rattle.frames_text.proofs.digits.number.Reads as number-reads
 
--- src/lib.rt:161:9
 returns : tie.Need-returns
 returns c = record { same = none-at _ _ (omega (arith, c .if1 .taken)); below = tt }
 
--- src/lib.rt:164:9
 returns-2 : tie.Need-returns-2
 returns-2 c = record { same = none-at _ _ (omega (arith, c .if2 .taken, c .before .if1 .left)); below = tt }
 
--- src/lib.rt:166:5
 number-requires : tie.Need-number-requires
 number-requires c κs = search needs
 
--- src/lib.rt:156:1
 returns-3 : tie.Need-returns-3
 returns-3 c = search needs
 

@@ -1,28 +1,22 @@
+-- `lines::fill_head` meets its contract.
 use Prim.Native.Nat.{_<_}
 use native.Mathlib.Omega.{arith}
 use borrow.Author.Needs.{needs}
 use Rattle.lines.proofs.fill_head.Statement.{statement}
 use Rattle.lines.proofs.fill_head.Tie as tie
-use Rattle.lines.proofs.fill_head.Reads as reads
-use Rattle.lines.proofs.fill_head.Lts as lts
 
--- src/lib.rt:224:19
 enum-known-byte : tie.Need-enum-known-byte
 enum-known-byte c = search needs
 
--- src/lib.rt:224:58
 cast-t4 : tie.Need-cast-t4
 cast-t4 c = let h : c .before .byte .given .0 .0 < 256 = rw (c .before .byte .given .1) at (c .before .before .before .pre) in omega (arith, h)
 
--- src/lib.rt:225:22
 enum-told : tie.Need-enum-told
 enum-told c = search needs
 
--- src/lib.rt:219:1
 returns : tie.Need-returns
 returns c = simp (c .before .byte .given .1)
 
--- src/lib.rt:219:1
 returns-2 : tie.Need-returns-2
 returns-2 c = search needs
 

@@ -1,50 +1,37 @@
+-- `lines::head_of` meets its contract.
 use mathlib.Core.Path.{sym, _∙_}
 use borrow.Author.Tests.{eq-eqb, ne-eqb}
 use borrow.Author.Needs.{needs}
 use Rattle.lines.proofs.head_of.Statement.{statement}
 use Rattle.lines.proofs.head_of.Tie as tie
-use Rattle.lines.proofs.head_of.Reads as reads
-use Rattle.lines.proofs.head_of.Lts as lts
-use Rattle.lines.proofs.byte_at.Reads as byte-at-reads
-use Rattle.lines.proofs.slave_head.Reads as slave-head-reads
 
--- src/lib.rt:251:11
 byte-at-requires : tie.Need-byte-at-requires
 byte-at-requires c κs = search needs
 
--- src/lib.rt:252:19
 enum-known-kind : tie.Need-enum-known-kind
 enum-known-kind c = search needs
 
--- src/lib.rt:254:17
 returns : tie.Need-returns
 returns c = simp (sym (c .before .before .before .before .byte-at .ensures .same) ∙ c .before .before .kind .given .1, eq-eqb _ _ (c .if1 .taken))
 
--- src/lib.rt:257:35
 byte-at-requires-2 : tie.Need-byte-at-requires-2
 byte-at-requires-2 c κs = search needs
 
--- src/lib.rt:257:53
 byte-at-requires-3 : tie.Need-byte-at-requires-3
 byte-at-requires-3 c κs = search needs
 
--- src/lib.rt:257:17
 slave-head-requires : tie.Need-slave-head-requires
 slave-head-requires c κs = search needs
 
--- src/lib.rt:257:17
 returns-2 : tie.Need-returns-2
 returns-2 c = c .slave-head .ensures ∙ simp (c .before .before .byte-at2 .ensures .same, c .before .byte-at3 .ensures .same, sym (c .before .before .before .before .before .before .before .before .byte-at .ensures .same) ∙ c .before .before .before .before .before .before .kind .given .1, ne-eqb _ _ (c .before .before .before .before .if1 .left), eq-eqb _ _ (c .before .before .before .if2 .taken))
 
--- src/lib.rt:261:22
 enum-told : tie.Need-enum-told
 enum-told c = search needs
 
--- src/lib.rt:248:1
 returns-3 : tie.Need-returns-3
 returns-3 c = simp (sym (c .before .before .before .before .before .byte-at .ensures .same) ∙ c .before .before .before .kind .given .1, ne-eqb _ _ (c .before .if1 .left), ne-eqb _ _ (c .if2 .left))
 
--- src/lib.rt:248:1
 returns-4 : tie.Need-returns-4
 returns-4 c = simp (sym (c .before .before .byte-at .ensures .same) ∙ c .enum-told .given .1)
 

@@ -1,28 +1,22 @@
+-- `lines::read` meets its contract.
 use Prim.Native.Nat.{_<_}
 use native.Mathlib.Omega.{arith}
 use borrow.Author.Needs.{needs}
 use Rattle.lines.proofs.read.Statement.{statement}
 use Rattle.lines.proofs.read.Tie as tie
-use Rattle.lines.proofs.read.Reads as reads
-use Rattle.lines.proofs.read.Lts as lts
 
--- src/lib.rt:110:19
 enum-known-places : tie.Need-enum-known-places
 enum-known-places c = search needs
 
--- src/lib.rt:110:37
 cast-t4 : tie.Need-cast-t4
 cast-t4 c = let h : c .before .places .given .0 .0 < 65536 = rw (c .before .places .given .1) at (c .before .before .before .pre) in omega (arith, h)
 
--- src/lib.rt:111:22
 enum-told : tie.Need-enum-told
 enum-told c = search needs
 
--- src/lib.rt:105:1
 returns : tie.Need-returns
 returns c = simp (c .before .places .given .1)
 
--- src/lib.rt:105:1
 returns-2 : tie.Need-returns-2
 returns-2 c = search needs
 

@@ -1,22 +1,17 @@
+-- `lines::reading` meets its contract.
 use borrow.Author.Needs.{needs}
 use Rattle.lines.proofs.reading.Statement.{statement}
 use Rattle.lines.proofs.reading.Tie as tie
-use Rattle.lines.proofs.reading.Reads as reads
-use Rattle.lines.proofs.reading.Lts as lts
 
--- src/lib.rt:119:19
 enum-known-word : tie.Need-enum-known-word
 enum-known-word c = search needs
 
--- src/lib.rt:120:22
 enum-told : tie.Need-enum-told
 enum-told c = search needs
 
--- src/lib.rt:115:1
 returns : tie.Need-returns
 returns c = simp (c .before .word .given .1)
 
--- src/lib.rt:115:1
 returns-2 : tie.Need-returns-2
 returns-2 c = search needs
 

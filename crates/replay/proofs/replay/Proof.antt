@@ -1,6 +1,6 @@
 -- `replay::replay` meets its contract.
 use native.Mathlib.Omega.{arith}
-use Rattle.replay.proofs.Fine.{starts}
+use Rattle.replay_feed.proofs.Fine.{starts}
 use borrow.Author.Needs.{needs}
 use Rattle.replay.proofs.replay.Statement.{statement}
 use Rattle.replay.proofs.replay.Tie as tie

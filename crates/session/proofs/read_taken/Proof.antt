@@ -1,46 +1,35 @@
+-- `session::read_taken` meets its contract.
 use borrow.Author.Needs.{needs}
 use Rattle.session.proofs.read_taken.Statement.{statement}
 use Rattle.session.proofs.read_taken.Tie as tie
-use Rattle.session.proofs.read_taken.Reads as reads
-use Rattle.session.proofs.read_taken.Lts as lts
 
--- src/lib.rt:90:27
 enum-told : tie.Need-enum-told
 enum-told c = search needs
 
--- src/lib.rt:91:34
 enum-told-2 : tie.Need-enum-told-2
 enum-told-2 c = search needs
 
--- src/lib.rt:92:25
 enum-told-3 : tie.Need-enum-told-3
 enum-told-3 c = search needs
 
--- src/lib.rt:93:24
 enum-told-4 : tie.Need-enum-told-4
 enum-told-4 c = search needs
 
--- src/lib.rt:94:33
 enum-told-5 : tie.Need-enum-told-5
 enum-told-5 c = search needs
 
--- src/lib.rt:86:1
 returns : tie.Need-returns
 returns c = search needs
 
--- src/lib.rt:86:1
 returns-2 : tie.Need-returns-2
 returns-2 c = simp (c .enum-told2 .given .1)
 
--- src/lib.rt:86:1
 returns-3 : tie.Need-returns-3
 returns-3 c = search needs
 
--- src/lib.rt:86:1
 returns-4 : tie.Need-returns-4
 returns-4 c = search needs
 
--- src/lib.rt:86:1
 returns-5 : tie.Need-returns-5
 returns-5 c = simp (c .enum-told5 .given .1)
 

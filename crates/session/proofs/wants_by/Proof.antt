@@ -1,22 +1,17 @@
+-- `session::wants_by` meets its contract.
 use borrow.Author.Tests.{eq-eqb, ne-eqb}
 use Rattle.session.proofs.wants_by.Statement.{statement}
 use Rattle.session.proofs.wants_by.Tie as tie
-use Rattle.session.proofs.wants_by.Reads as reads
-use Rattle.session.proofs.wants_by.Lts as lts
 
--- src/lib.rt:61:9
 returns : tie.Need-returns
 returns c = simp (eq-eqb _ _ (c .if1 .taken))
 
--- src/lib.rt:64:9
 returns-2 : tie.Need-returns-2
 returns-2 c = simp (ne-eqb _ _ (c .before .if1 .left), eq-eqb _ _ (c .if2 .taken))
 
--- src/lib.rt:67:9
 returns-3 : tie.Need-returns-3
 returns-3 c = simp (ne-eqb _ _ (c .before .before .if1 .left), ne-eqb _ _ (c .before .if2 .left), eq-eqb _ _ (c .if3 .taken))
 
--- src/lib.rt:56:1
 returns-4 : tie.Need-returns-4
 returns-4 c = simp (ne-eqb _ _ (c .before .before .if1 .left), ne-eqb _ _ (c .before .if2 .left), ne-eqb _ _ (c .if3 .left))
 

@@ -1,15 +1,11 @@
+-- `session::enter::closed` meets its contract.
 use borrow.Author.Needs.{needs}
 use Rattle.session.proofs.enter.closed.Statement.{statement}
 use Rattle.session.proofs.enter.closed.Tie as tie
-use Rattle.session.proofs.enter.closed.Reads as reads
-use Rattle.session.proofs.enter.closed.Lts as lts
-use Rattle.session.proofs.store.none.Reads as none-reads
 
--- src/enter.rt:153:17
 none-requires : tie.Need-none-requires
 none-requires c κs = search needs
 
--- src/enter.rt:146:1
 returns : tie.Need-returns
 returns c = simp (c .none .ensures)
 

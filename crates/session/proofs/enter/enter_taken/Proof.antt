@@ -1,27 +1,20 @@
+-- `session::enter::enter_taken` meets its contract.
 use borrow.Author.Needs.{needs}
 use Rattle.session.proofs.enter.enter_taken.Statement.{statement}
 use Rattle.session.proofs.enter.enter_taken.Tie as tie
-use Rattle.session.proofs.enter.enter_taken.Reads as reads
-use Rattle.session.proofs.enter.enter_taken.Lts as lts
-use Rattle.session.proofs.enter.open.Reads as open-reads
 
--- src/enter.rt:96:20
 enum-known-t : tie.Need-enum-known-t
 enum-known-t c = search needs
 
--- src/enter.rt:96:44
 open-requires : tie.Need-open-requires
 open-requires c κs = search needs
 
--- src/enter.rt:97:25
 enum-told : tie.Need-enum-told
 enum-told c = search needs
 
--- src/enter.rt:92:1
 returns : tie.Need-returns
 returns c = simp (c .before .before .t .given .1, c .«open» .ensures)
 
--- src/enter.rt:92:1
 returns-2 : tie.Need-returns-2
 returns-2 c = search needs
 

@@ -1,27 +1,20 @@
+-- `session::enter::enter_took` meets its contract.
 use borrow.Author.Needs.{needs}
 use Rattle.session.proofs.enter.enter_took.Statement.{statement}
 use Rattle.session.proofs.enter.enter_took.Tie as tie
-use Rattle.session.proofs.enter.enter_took.Reads as reads
-use Rattle.session.proofs.enter.enter_took.Lts as lts
-use Rattle.session.proofs.enter.open.Reads as open-reads
 
--- src/enter.rt:58:19
 enum-known-t : tie.Need-enum-known-t
 enum-known-t c = search needs
 
--- src/enter.rt:58:40
 open-requires : tie.Need-open-requires
 open-requires c κs = search needs
 
--- src/enter.rt:59:24
 enum-told : tie.Need-enum-told
 enum-told c = search needs
 
--- src/enter.rt:54:1
 returns : tie.Need-returns
 returns c = simp (c .before .before .t .given .1, c .«open» .ensures)
 
--- src/enter.rt:54:1
 returns-2 : tie.Need-returns-2
 returns-2 c = search needs
 

@@ -1,0 +1,106 @@
+-- `calls_master::drive` meets its contract.
+use borrow.Author.Tests.{lt-ltb, le-ltb, ne-eqb}
+use borrow.Author.Needs.{needs}
+use Rattle.calls_master.proofs.drive.Statement.{statement}
+use Rattle.calls_master.proofs.drive.Tie as tie
+
+blocking-read-requires : tie.Need-blocking-read-requires
+blocking-read-requires c κs = search needs
+
+same-length : tie.Need-same-length
+same-length c = search needs
+
+same-length-2 : tie.Need-same-length-2
+same-length-2 c = search needs
+
+returns : tie.Need-returns
+returns c = rw (c .before .before .before .before .before .before .before .if2 .taken, lt-ltb _ _ (c .before .before .before .before .before .before .before .before .if1 .taken)) (c .before .before .before .before .blocking-read .ensures)
+
+blocking-write-read-requires : tie.Need-blocking-write-read-requires
+blocking-write-read-requires c κs = search needs
+
+same-length-3 : tie.Need-same-length-3
+same-length-3 c = search needs
+
+same-length-4 : tie.Need-same-length-4
+same-length-4 c = search needs
+
+returns-2 : tie.Need-returns-2
+returns-2 c = rw (c .before .before .before .before .before .before .before .if3 .taken, lt-ltb _ _ (c .before .before .before .before .before .before .before .before .before .if1 .taken)) (c .before .before .before .before .blocking-write-read .ensures)
+
+transaction-requires : tie.Need-transaction-requires
+transaction-requires c κs = search needs
+
+same-length-5 : tie.Need-same-length-5
+same-length-5 c = search needs
+
+same-length-6 : tie.Need-same-length-6
+same-length-6 c = search needs
+
+returns-3 : tie.Need-returns-3
+returns-3 c = rw (ne-eqb _ _ (c .before .before .before .before .before .before .before .before .if2 .left), ne-eqb _ _ (c .before .before .before .before .before .before .before .before .before .before .before .before .before .before .before .before .pre), ne-eqb _ _ (c .before .before .before .before .before .before .before .if3 .left), lt-ltb _ _ (c .before .before .before .before .before .before .before .before .before .if1 .taken)) (c .before .before .before .before .transaction .ensures)
+
+read-async-requires : tie.Need-read-async-requires
+read-async-requires c κs = search needs
+
+same-length-7 : tie.Need-same-length-7
+same-length-7 c = search needs
+
+same-length-8 : tie.Need-same-length-8
+same-length-8 c = search needs
+
+returns-4 : tie.Need-returns-4
+returns-4 c = rw (c .before .before .before .before .before .before .before .if4 .taken, le-ltb _ _ (c .before .before .before .before .before .before .before .before .if1 .left)) (c .before .before .before .before .read-async .ensures)
+
+write-read-async-requires : tie.Need-write-read-async-requires
+write-read-async-requires c κs = search needs
+
+same-length-9 : tie.Need-same-length-9
+same-length-9 c = search needs
+
+same-length-10 : tie.Need-same-length-10
+same-length-10 c = search needs
+
+returns-5 : tie.Need-returns-5
+returns-5 c = rw (c .before .before .before .before .before .before .before .if5 .taken, le-ltb _ _ (c .before .before .before .before .before .before .before .before .before .if1 .left)) (c .before .before .before .before .write-read-async .ensures)
+
+transaction-async-requires : tie.Need-transaction-async-requires
+transaction-async-requires c κs = search needs
+
+same-length-11 : tie.Need-same-length-11
+same-length-11 c = search needs
+
+same-length-12 : tie.Need-same-length-12
+same-length-12 c = search needs
+
+returns-6 : tie.Need-returns-6
+returns-6 c = rw (ne-eqb _ _ (c .before .before .before .before .before .before .before .before .if4 .left), ne-eqb _ _ (c .before .before .before .before .before .before .before .before .before .before .before .before .before .before .before .before .pre), ne-eqb _ _ (c .before .before .before .before .before .before .before .if5 .left), le-ltb _ _ (c .before .before .before .before .before .before .before .before .before .if1 .left)) (c .before .before .before .before .transaction-async .ensures)
+
+pub drive-spec : {M : Type 1} → statement M
+drive-spec =
+    tie.close
+    (tie.spec
+    blocking-read-requires
+    same-length
+    same-length-2
+    returns
+    blocking-write-read-requires
+    same-length-3
+    same-length-4
+    returns-2
+    transaction-requires
+    same-length-5
+    same-length-6
+    returns-3
+    read-async-requires
+    same-length-7
+    same-length-8
+    returns-4
+    write-read-async-requires
+    same-length-9
+    same-length-10
+    returns-5
+    transaction-async-requires
+    same-length-11
+    same-length-12
+    returns-6)

@@ -1,0 +1,39 @@
+-- `calls_slave::respond_and_fill` meets its contract.
+use mathlib.Core.Bool.{false}
+use mathlib.Core.List.{[]}
+use Rattle.slave_state.specs.I2cSlave.{respond-and-fill-call}
+use Rattle.calls.proofs.Legal.{respond-and-fill-call-legal}
+use Rattle.calls.proofs.Prints.{room, prints-none, state-left}
+use native.Mathlib.Omega.{arith}
+use borrow.Author.Needs.{needs}
+use Rattle.calls_slave.proofs.respond_and_fill.Statement.{statement}
+use Rattle.calls_slave.proofs.respond_and_fill.Tie as tie
+
+respond-and-fill-from-requires : tie.Need-respond-and-fill-from-requires
+respond-and-fill-from-requires c κs = search needs
+
+slice-aggregate-push-outcome : tie.Need-slice-aggregate-push-outcome
+slice-aggregate-push-outcome c = search needs
+
+push-outcome-requires : tie.Need-push-outcome-requires
+push-outcome-requires c κs = let l = c .before .before .before .before .before .before .before .respond-and-fill-from in room (l .ensures .ran) (c .before .before .before .before .before .before .before .before .before .before .before .before .before .pre .0) (l .kept .1 .1 .1 .1 .0) _ 0 _ (omega arith) (c .before .before .before .before .before .before .before .before .before .before .before .before .before .pre .1)
+
+same-length : tie.Need-same-length
+same-length c = search needs
+
+same-length-2 : tie.Need-same-length-2
+same-length-2 c = search needs
+
+returns : tie.Need-returns
+returns c = let a = c .before .before .before .before .before .before .before .before .before .before .before .before .before .before .before .before .args in let l = c .before .before .before .before .before .before .before .before .before .before .respond-and-fill-from in record { text = prints-none (respond-and-fill-call (a .bytes .now) (a .fill)) (respond-and-fill-call-legal (a .bytes .now) (a .fill)) (a .log .now) (a .readings .now) (a .s) (c .before .before .before .before .before .before .before .before .before .before .before .before .before .before .before .before .pre .0) (l .ensures .ran) (l .kept .1 .1 .1 .1 .0) false (c .before .before .push-outcome .ensures); slave = state-left (respond-and-fill-call (a .bytes .now) (a .fill)) (respond-and-fill-call-legal (a .bytes .now) (a .fill)) (a .log .now) (a .readings .now) [] (a .s) (c .before .before .before .before .before .before .before .before .before .before .before .before .before .before .before .before .pre .0) (l .ensures .ran) (l .kept .1 .1 .1 .1 .0) (l .ensures .state) }
+
+pub respond-and-fill-spec : {M : Type 1} → statement M
+respond-and-fill-spec =
+    tie.close
+    (tie.spec
+    respond-and-fill-from-requires
+    slice-aggregate-push-outcome
+    push-outcome-requires
+    same-length
+    same-length-2
+    returns)

@@ -1,0 +1,4 @@
+-- What the proofs of the functions cite.
+pub mod Lines
+pub mod Long
+pub mod Steps

@@ -1,0 +1,2 @@
+-- What the replay reads and prints.
+pub mod Rest

@@ -1,0 +1,231 @@
+// One byte of the input.
+use super::LONGEST_KEPT;
+use super::Part;
+use super::State;
+use super::Turn;
+use super::fresh_slave;
+use frames_text::digits::all_digits;
+use frames_text::digits::digit;
+use frames_text::print;
+use lines::Head;
+use lines::head_of;
+use lines::width;
+use session::Entered;
+use session::enter::closed;
+use session::enter::enter_wide;
+use session_lines::enter_line;
+ghost use mathlib.Core.Path.{_≡_};
+ghost use mathlib.Core.Bool.{true, false, not, _&&_};
+ghost use mathlib.Core.List.{[], _∷_};
+ghost use Prim.Native.Nat.{_+_, _≤_};
+ghost use lib.Dec.{ltb};
+ghost use lib.ListN.{length, set};
+ghost use Rattle.frames_text.specs.Text.{digit-of};
+ghost use Rattle.frames_text.specs.Appended.{Appended};
+ghost use Rattle.calls.specs.Runs.{MOST-TEXT};
+ghost use Rattle.session.specs.Session.{refusal, line-after};
+ghost use Rattle.session.specs.Enter.{LONGEST-KEPT};
+ghost use Rattle.reader.specs.Rest.{whole, Sound, Went, EndedAs, TurnedTo, KeptAs, LongEndedAs, long-line, stopped-at, with-part, begun-of};
+
+fn next_line(line: u32) -> u32
+    ensures { λ r. ⌜ r ≡ line-after line ⌝ }
+{
+    if line < 4294967295 { line + 1 } else { line }
+}
+
+// A malformed line: its number is printed, and nothing more is read.
+fn stop(line: u32, out: &mut [u8], at: usize) -> Turn
+    requires { ⌜ at + MOST-TEXT ≤ length (now out) ⌝ }
+    ensures { λ r. ⌜ (r .state ≡ stopped-at line) × Appended (now (out .entry)) at (refusal line) 13 (now (out .exit)) (r .made) ⌝ }
+{
+    let made = print::push_answer(out, at, 21, line);
+    Turn {
+        state: State {
+            line,
+            part: Part::Stopped,
+            call: closed(),
+            slave: fresh_slave(),
+        },
+        made,
+    }
+}
+
+pub fn end_line(line: u32, e: Entered, out: &mut [u8], at: usize) -> Turn
+    requires { ⌜ at + MOST-TEXT ≤ length (now out) ⌝ }
+    ensures { λ r. ⌜ EndedAs line e at (now (out .entry)) (now (out .exit)) r ⌝ }
+{
+    match e {
+        Entered::Going(call, slave, end) => Turn {
+            state: State {
+                line: next_line(line),
+                part: Part::Text(0),
+                call,
+                slave,
+            },
+            made: end,
+        },
+        Entered::Malformed => stop(line, out, at),
+    }
+}
+
+// The line goes on.
+fn go_on(s: State, part: Part, at: usize) -> Turn
+    ensures { λ r. ⌜ r ≡ record { state = with-part s part; made = at } ⌝ }
+{
+    let call = s.call;
+    let slave = s.slave;
+    Turn {
+        state: State {
+            line: s.line,
+            part,
+            call,
+            slave,
+        },
+        made: at,
+    }
+}
+
+// Whether the bytes kept begin a line that may go on: one that ends in bytes, with digits so far.
+fn is_long(text: &[u8]) -> bool
+    ensures { λ r. ⌜ r ≡ long-line (now (text .entry)) ⌝ }
+{
+    match head_of(text) {
+        Head::Plain => false,
+        Head::Bytes(l) => {
+            let w = width(l);
+            all_digits(&text[w..])
+        }
+    }
+}
+
+// A byte of a line that is longer than what is kept.
+fn skip(x: u8, odd: bool, s: State, out: &mut [u8], at: usize) -> Turn
+    requires { ⌜ at + MOST-TEXT ≤ length (now out) ⌝ }
+    ensures { λ r. ⌜ TurnedTo s (Part.Long (not odd)) at (now (out .entry)) (now (out .exit)) r (ltb (digit-of x) 16) ⌝ }
+{
+    if digit(x) < 16 {
+        return go_on(s, Part::Long(!odd), at);
+    }
+    stop(s.line, out, at)
+}
+
+// The first byte of a line that is not kept.
+fn lengthen(x: u8, s: State, text: &[u8], out: &mut [u8], at: usize) -> Turn
+    requires { ⌜ at + MOST-TEXT ≤ length (now out) ⌝ }
+    ensures { λ r. ⌜ TurnedTo s (Part.Long true) at (now (out .entry)) (now (out .exit)) r (long-line (now (text .entry)) && ltb (digit-of x) 16) ⌝ }
+{
+    if is_long(text) {
+        return skip(x, false, s, out, at);
+    }
+    stop(s.line, out, at)
+}
+
+// A byte of a line of which n bytes are kept.
+fn keep(x: u8, n: usize, s: State, text: &mut [u8], out: &mut [u8], at: usize) -> Turn
+    requires { ⌜ (length (now text) ≡ LONGEST-KEPT) × (at + MOST-TEXT ≤ length (now out)) ⌝ }
+    ensures { λ r. ⌜ KeptAs s n x (now (text .entry)) at (now (out .entry)) (now (out .exit)) r × (now (text .exit) ≡ set (now (text .entry)) n x) ⌝ }
+{
+    if n < LONGEST_KEPT {
+        text[n] = x;
+        return go_on(s, Part::Text(n + 1), at);
+    }
+    lengthen(x, s, text, out, at)
+}
+
+// The end of such a line.
+fn end_long(odd: bool, s: State, text: &[u8], out: &mut [u8], at: usize) -> Turn
+    requires { ⌜ at + MOST-TEXT ≤ length (now out) ⌝ }
+    ensures { λ r. ⌜ LongEndedAs odd s (now (text .entry)) at (now (out .entry)) (now (out .exit)) r ⌝ }
+{
+    if odd {
+        return stop(s.line, out, at);
+    }
+    match head_of(text) {
+        Head::Plain => stop(s.line, out, at),
+        Head::Bytes(l) => {
+            let call = s.call;
+            let slave = s.slave;
+            end_line(s.line, enter_wide(l, call, slave, at), out, at)
+        }
+    }
+}
+
+// An LF.
+pub fn line_feed(
+    s: State,
+    text: &[u8],
+    kinds: &mut [u8],
+    lengths: &mut [u16],
+    bytes: &mut [u8],
+    readings: &mut [u32],
+    buffer: &mut [u8],
+    log: &mut [u32],
+    out: &mut [u8],
+    at: usize,
+) -> Turn
+    requires { ⌜ Sound (whole s (now text) (now kinds) (now lengths) (now bytes) (now readings) (now buffer) (now log)) × (at + MOST-TEXT ≤ length (now out)) ⌝ }
+    ensures { λ r. ⌜ Went (whole s (now (text .entry)) (now (kinds .entry)) (now (lengths .entry)) (now (bytes .entry)) (now (readings .entry)) (now (buffer .entry)) (now (log .entry))) (now (out .entry)) at (10 ∷ []) (whole (r .state) (now (text .entry)) (now (kinds .exit)) (now (lengths .exit)) (now (bytes .exit)) (now (readings .exit)) (now (buffer .exit)) (now (log .exit))) (now (out .exit)) (r .made) [] × (r .made ≤ at + MOST-TEXT) × (begun-of (r .state .part) ≡ false) ⌝ }
+{
+    let p = s.part;
+    match p {
+        Part::Stopped => Turn { state: s, made: at },
+        Part::Text(n) => {
+            let call = s.call;
+            let slave = s.slave;
+            let line = &text[..n];
+            let e = enter_line(
+                line,
+                call,
+                slave,
+                kinds,
+                lengths,
+                bytes,
+                readings,
+                buffer,
+                log,
+                out,
+                at,
+            );
+            end_line(s.line, e, out, at)
+        }
+        Part::Long(odd) => end_long(odd, s, text, out, at),
+    }
+}
+
+pub fn one(
+    x: u8,
+    s: State,
+    text: &mut [u8],
+    kinds: &mut [u8],
+    lengths: &mut [u16],
+    bytes: &mut [u8],
+    readings: &mut [u32],
+    buffer: &mut [u8],
+    log: &mut [u32],
+    out: &mut [u8],
+    at: usize,
+) -> Turn
+    requires { ⌜ Sound (whole s (now text) (now kinds) (now lengths) (now bytes) (now readings) (now buffer) (now log)) × (at + MOST-TEXT ≤ length (now out)) ⌝ }
+    ensures { λ r. ⌜ Went (whole s (now (text .entry)) (now (kinds .entry)) (now (lengths .entry)) (now (bytes .entry)) (now (readings .entry)) (now (buffer .entry)) (now (log .entry))) (now (out .entry)) at (x ∷ []) (whole (r .state) (now (text .exit)) (now (kinds .exit)) (now (lengths .exit)) (now (bytes .exit)) (now (readings .exit)) (now (buffer .exit)) (now (log .exit))) (now (out .exit)) (r .made) [] × (r .made ≤ at + MOST-TEXT) ⌝ }
+{
+    if x == 10 {
+        return line_feed(
+            s,
+            text,
+            kinds,
+            lengths,
+            bytes,
+            readings,
+            buffer,
+            log,
+            out,
+            at,
+        );
+    }
+    let p = s.part;
+    match p {
+        Part::Stopped => Turn { state: s, made: at },
+        Part::Text(n) => keep(x, n, s, text, out, at),
+        Part::Long(odd) => skip(x, odd, s, out, at),
+    }
+}

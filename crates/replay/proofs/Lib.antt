@@ -1,2 +1,0 @@
--- What the proofs of the loops cite.
-pub mod Fine
