@@ -1,2 +1,3 @@
--- What the proofs of several functions use.
+-- What the proofs of several functions use, and what holds of the steps.
 mod Reported
+pub mod Driven
