@@ -1,5 +1,6 @@
 //! The proved driver on the oracle's calls, in process: whole calls over readings and log, and transfers by steps.
 
+pub mod ideal;
 pub mod stepped;
 pub mod whole;
 
