@@ -1,4 +1,5 @@
-/* The driver's calls, as the static library that `rt staticlib exports` makes (target/staticlib/libexports.a) has them.
+/* The driver's calls, as the static libraries have them that `rt staticlib exports` (whole calls) and `rt staticlib
+ * exports_steps` (a transfer by steps) write to target/staticlib.
  *
  * A call is given the words that its register reads return (`readings`) and leaves a log of its accesses (`log`): two words an
  * entry, the kind times 256 plus the register's offset or the mark, then the value. Kinds: 1 a read, 2 a write, 3 a mark (0 a

@@ -1,7 +1,10 @@
-//! Links the static library of the crate `exports`: the folder that `CELADONSAW_LIB` names, or the one that `rt staticlib` writes.
+//! Links the static libraries of the crates `exports` and `exports_steps`: those in the folder that `CELADONSAW_LIB` names, or
+//! those that `rt staticlib` writes.
 use std::path::{Path, PathBuf};
 use std::process::Command;
 use std::{env, process};
+
+const LIBRARIES: [&str; 2] = ["exports", "exports_steps"];
 
 fn fail(message: &str) -> ! {
     println!("cargo::error={message}");
@@ -12,15 +15,16 @@ fn built(root: &Path) -> PathBuf {
     for name in ["crates", "crates.txt"] {
         println!("cargo::rerun-if-changed={}", root.join(name).display());
     }
-    match Command::new("rt").args(["staticlib", "exports"]).current_dir(root).output() {
-        Ok(done) if done.status.success() => root.join("target/staticlib"),
-        Ok(done) => {
-            fail(&format!("rt staticlib exports: {}", String::from_utf8_lossy(&done.stderr).replace('\n', "; ")))
-        }
-        Err(error) => {
-            fail(&format!("rt staticlib exports: {error}; or set CELADONSAW_LIB to the folder of libexports.a"))
+    for library in LIBRARIES {
+        match Command::new("rt").args(["staticlib", library]).current_dir(root).output() {
+            Ok(done) if done.status.success() => {}
+            Ok(done) => {
+                fail(&format!("rt staticlib {library}: {}", String::from_utf8_lossy(&done.stderr).replace('\n', "; ")))
+            }
+            Err(error) => fail(&format!("rt: {error}; or set CELADONSAW_LIB to the folder of the static libraries")),
         }
     }
+    root.join("target/staticlib")
 }
 
 fn main() {
@@ -30,11 +34,13 @@ fn main() {
         Ok(given) => PathBuf::from(given),
         Err(_) => built(&here.join("../..")),
     };
-    let library = folder.join("libexports.a");
-    if !library.is_file() {
-        fail(&format!("no {}", library.display()));
+    for library in LIBRARIES {
+        let file = folder.join(format!("lib{library}.a"));
+        if !file.is_file() {
+            fail(&format!("no {}", file.display()));
+        }
+        println!("cargo::rerun-if-changed={}", file.display());
+        println!("cargo::rustc-link-lib=static={library}");
     }
-    println!("cargo::rerun-if-changed={}", library.display());
     println!("cargo::rustc-link-search=native={}", folder.canonicalize().unwrap().display());
-    println!("cargo::rustc-link-lib=static=exports");
 }

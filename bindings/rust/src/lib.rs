@@ -1,4 +1,5 @@
-//! The proved I2C driver for the RP2040, for Rust: the static library of the crate `exports` behind safe functions.
+//! The proved I2C driver for the RP2040, for Rust: the static libraries of the crates `exports` and `exports_steps`
+//! behind safe functions.
 //!
 //! A call is given the words that its register reads return and leaves a log of its accesses, two words an entry ([`Entry`]).
 //! [`master`] and [`Slave`] run whole calls; [`Transfer`] drives a master transfer one access at a time.

@@ -1,3 +1,2 @@
--- What the proofs of several functions use, and what holds of the steps.
+-- What the proofs of several functions use.
 mod Reported
-pub mod Driven

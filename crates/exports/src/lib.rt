@@ -1,7 +1,6 @@
 // The public calls for programs in C or Rust, as functions of a static library (`rt staticlib exports`). Each forwards to the call of the same name; numbers,
 // slices and structs of numbers go through, and an answer is told by document 01's number and detail. A slice is a pointer and a length.
 pub mod slave_calls; // the slave's calls, with the state by value
-pub mod steps; // a transfer, one access at a time
 
 use regs::access::Ran;
 ghost use mathlib.Core.Path.{_≡_};

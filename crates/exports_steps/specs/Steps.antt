@@ -16,7 +16,7 @@ use Rattle.transfer.specs.declared.Transfer.{Transfer}
 use Rattle.transfer.specs.declared.Point.the-variants as P
 use Rattle.transfer_numbers.specs.Numbers.{mode-at, transfer-at, numbers-of, has-ended}
 use Rattle.transfer_numbers.specs.declared.Machine.{Machine}
-use Rattle.exports.specs.declared.steps.Access.{Access}
+use Rattle.exports_steps.specs.declared.Access.{Access}
 
 -- the end, with number and detail
 unfoldable pub ended : ℕ → ℕ → Access

@@ -1,9 +1,9 @@
--- `exports::steps::celadonsaw_next_access` meets its contract.
-use Rattle.exports.specs.Steps.{next-access-of, ended}
+-- `exports_steps::celadonsaw_next_access` meets its contract.
+use Rattle.exports_steps.specs.Steps.{next-access-of, ended}
 use borrow.Author.Tests.{eq-eqb, ne-eqb}
 use borrow.Author.Needs.{needs}
-use Rattle.exports.proofs.steps.celadonsaw_next_access.Statement.{statement}
-use Rattle.exports.proofs.steps.celadonsaw_next_access.Tie as tie
+use Rattle.exports_steps.proofs.celadonsaw_next_access.Statement.{statement}
+use Rattle.exports_steps.proofs.celadonsaw_next_access.Tie as tie
 
 returns : tie.Need-returns
 unfolding next-access-of ended

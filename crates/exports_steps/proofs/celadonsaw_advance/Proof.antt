@@ -1,9 +1,9 @@
--- `exports::steps::celadonsaw_advance` meets its contract.
-use Rattle.exports.specs.Steps.{advance-of-numbers}
+-- `exports_steps::celadonsaw_advance` meets its contract.
+use Rattle.exports_steps.specs.Steps.{advance-of-numbers}
 use borrow.Author.Tests.{eq-eqb, ne-eqb}
 use borrow.Author.Needs.{needs}
-use Rattle.exports.proofs.steps.celadonsaw_advance.Statement.{statement}
-use Rattle.exports.proofs.steps.celadonsaw_advance.Tie as tie
+use Rattle.exports_steps.proofs.celadonsaw_advance.Statement.{statement}
+use Rattle.exports_steps.proofs.celadonsaw_advance.Tie as tie
 
 transfer-from-requires : tie.Need-transfer-from-requires
 transfer-from-requires c κs = search needs

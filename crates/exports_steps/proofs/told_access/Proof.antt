@@ -1,8 +1,8 @@
--- `exports::steps::told_access` meets its contract.
-use Rattle.exports.specs.Steps.{access-of, ended}
+-- `exports_steps::told_access` meets its contract.
+use Rattle.exports_steps.specs.Steps.{access-of, ended}
 use borrow.Author.Needs.{needs}
-use Rattle.exports.proofs.steps.told_access.Statement.{statement}
-use Rattle.exports.proofs.steps.told_access.Tie as tie
+use Rattle.exports_steps.proofs.told_access.Statement.{statement}
+use Rattle.exports_steps.proofs.told_access.Tie as tie
 
 enum-known-n : tie.Need-enum-known-n
 enum-known-n c = search needs

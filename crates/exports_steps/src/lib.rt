@@ -1,4 +1,4 @@
-// A master transfer driven one access at a time from C or Rust: start it, then ask for the next access, perform it, and advance with the word read, until the
+// A master transfer driven one access at a time from C or Rust (`rt staticlib exports_steps`): start it, then ask for the next access, perform it, and advance with the word read, until the
 // access is the end. The transfer is held by the caller, as numbers (`transfer_numbers`), and goes in and out by value.
 use i2c::is_listed;
 use regs::access::Next;
@@ -13,7 +13,7 @@ ghost use lib.ListN.{length};
 ghost use Rattle.regs.specs.Machine.{stored-in};
 ghost use Rattle.transfer.specs.Machine.{store-of};
 ghost use Rattle.transfer_numbers.specs.Numbers.{numbers-of, transfer-at};
-ghost use Rattle.exports.specs.Steps.{access-of, over-limits, first-of, next-access-of, advance-of-numbers};
+ghost use Rattle.exports_steps.specs.Steps.{access-of, over-limits, first-of, next-access-of, advance-of-numbers};
 
 // The access that is next: kind 1 reads the register, 2 writes the value to it, 3 is a mark (register 0: a poll that is not done; 1: a reset of the block), and 0
 // is the end, with the answer's number and, as value, its detail.

@@ -1,9 +1,9 @@
--- `exports::steps::celadonsaw_start` meets its contract.
-use Rattle.exports.specs.Steps.{first-of}
+-- `exports_steps::celadonsaw_start` meets its contract.
+use Rattle.exports_steps.specs.Steps.{first-of}
 use mathlib.Core.Path.{sym, _∙_}
 use borrow.Author.Needs.{needs}
-use Rattle.exports.proofs.steps.celadonsaw_start.Statement.{statement}
-use Rattle.exports.proofs.steps.celadonsaw_start.Tie as tie
+use Rattle.exports_steps.proofs.celadonsaw_start.Statement.{statement}
+use Rattle.exports_steps.proofs.celadonsaw_start.Tie as tie
 
 mode-requires : tie.Need-mode-requires
 mode-requires c κs = search needs
