@@ -121,28 +121,32 @@ fn line(points: &[(f64, f64)]) -> (f64, f64) {
     ((y - slope * x) / one, slope)
 }
 
+/// A whole call of a form and a length, to be run again and again.
+fn whole_call(form: u8, length: usize) -> impl FnMut() {
+    let call = transfer_call(form, length);
+    let mut buffer = vec![0; length];
+    let mut log = vec![0; 2 * (5 * length + 16)];
+    move || {
+        let (read, write, readings) = (&mut buffer[..], &call.bytes[..], &call.readings[..]);
+        let left = match form {
+            0 => master::blocking_read(ADDRESS, read, readings, &mut log),
+            1 => master::blocking_write(ADDRESS, write, readings, &mut log),
+            4 => master::read_async(ADDRESS, read, readings, &mut log),
+            _ => master::write_async(ADDRESS, write, readings, &mut log),
+        };
+        assert_eq!(black_box(left).answer, Ok(()));
+    }
+}
+
 fn by_length() {
-    let mut log = vec![0; 2 * 5 * 4096];
     print!("| call | ns a byte |");
     LENGTHS.iter().for_each(|length| print!(" {length} |"));
     println!(" furthest off |\n|---|---|{}---|", "---|".repeat(LENGTHS.len()));
     for (name, form) in [("blocking_read", 0), ("blocking_write", 1), ("read_async", 4), ("write_async", 5)] {
-        let mut points = Vec::new();
-        for length in LENGTHS {
-            let call = transfer_call(form, length);
-            let mut buffer = vec![0; length];
-            let mut run = || {
-                let (read, write, readings) = (&mut buffer[..], &call.bytes[..], &call.readings[..]);
-                let left = match form {
-                    0 => master::blocking_read(ADDRESS, read, readings, &mut log),
-                    1 => master::blocking_write(ADDRESS, write, readings, &mut log),
-                    4 => master::read_async(ADDRESS, read, readings, &mut log),
-                    _ => master::write_async(ADDRESS, write, readings, &mut log),
-                };
-                assert_eq!(black_box(left).answer, Ok(()));
-            };
-            points.push((length as f64, measure(&mut [&mut run])[0]));
-        }
+        let mut runs = LENGTHS.map(|length| whole_call(form, length));
+        let mut sides: Vec<&mut dyn FnMut()> = runs.iter_mut().map(|run| run as &mut dyn FnMut()).collect();
+        let times = measure(&mut sides);
+        let points: Vec<(f64, f64)> = LENGTHS.map(|length| length as f64).into_iter().zip(times).collect();
         let (offset, slope) = line(&points);
         let mut furthest: f64 = 0.0;
         print!("| {name} | {slope:.2} |");
