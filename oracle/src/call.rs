@@ -4,7 +4,7 @@ pub const MOST_READINGS: usize = 8192;
 pub const MOST_BYTES: usize = 4096;
 pub const MOST_OPERATIONS: usize = 64;
 
-#[derive(Clone, Copy, PartialEq, Eq)]
+#[derive(Clone, Copy, PartialEq, Eq, Debug)]
 pub enum Kind {
     Clock {
         frequency: u32,
@@ -31,13 +31,13 @@ pub enum Kind {
     },
 }
 
-#[derive(Clone, Copy, PartialEq, Eq)]
+#[derive(Clone, Copy, PartialEq, Eq, Debug)]
 pub enum Operation {
     Write(usize),
     Read(usize),
 }
 
-#[derive(Clone)]
+#[derive(Clone, Debug)]
 pub struct Call {
     pub kind: Kind,
     pub operations: Vec<Operation>,

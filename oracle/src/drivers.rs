@@ -70,6 +70,11 @@ impl Drivers {
         })
     }
 
+    /// The slave's kept byte, address and general call.
+    pub fn slave_state(&self) -> (Option<u8>, u16, bool) {
+        self.slave.state()
+    }
+
     fn answer(&mut self, call: &Call) -> Answer {
         if call.is_beyond_limits() {
             return Answer::refused(20);

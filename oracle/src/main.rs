@@ -1,35 +1,10 @@
-//! The original Rust drivers over a stand-in for the registers: frames in, answer frames out.
-
-// The drivers name outside crates; these names lead to the stand-ins below.
-extern crate self as embassy_embedded_hal;
-extern crate self as embassy_hal_internal;
-extern crate self as embassy_sync;
-extern crate self as embedded_hal_02;
-
-#[macro_use]
-mod macros;
-
-mod bus;
-mod call;
-mod chip;
-mod damage;
-mod drivers;
-mod frames;
-mod hex;
-mod offsets;
-mod pac;
-mod random;
-mod replay;
-mod vectors;
-
-// `i2c` and `i2c_slave`, by path.
-include!(concat!(env!("OUT_DIR"), "/drivers.rs"));
-
-use chip::{Peri, PeripheralType, SetConfig, blocking, clocks, gpio, interrupt, peripherals, reset, waitqueue};
+//! Frames in, answer frames out: the original Rust drivers as a program.
 
 use std::io::{self, BufReader};
 use std::path::Path;
 use std::process::ExitCode;
+
+use oracle::{damage, random, replay, vectors};
 
 const USAGE: &str = "usage: oracle [replay] < FRAMES > ANSWERS
        oracle random SEED COUNT > FRAMES

@@ -101,31 +101,7 @@ pub fn drive(
     let mut used: usize = 0;
     loop {
         'xmit: loop {
-            match step(
-                t,
-                kinds,
-                lengths,
-                bytes,
-                readings,
-                used,
-                log,
-                entries,
-                buffer,
-            ) {
-                Stepped::Stopped(r) => {
-                    return Ran {
-                        reply: r,
-                        entries,
-                        used,
-                    };
-                }
-                Stepped::On(next, u) => {
-                    t = next;
-                    used = u;
-                    entries += 1;
-                }
-            }
-            while is_filling(t) {
+            loop {
                 match step(
                     t,
                     kinds,
@@ -148,10 +124,13 @@ pub fn drive(
                         t = next;
                         used = u;
                         entries += 1;
-                        if has_ended(t) {
-                            break 'xmit;
-                        }
                     }
+                }
+                if has_ended(t) {
+                    break 'xmit;
+                }
+                if !is_filling(t) {
+                    break;
                 }
             }
         }

@@ -7,7 +7,7 @@ mod sim;
 use std::io::{self, Write};
 
 use crate::bus;
-use crate::call::MOST_READINGS;
+use crate::call::{Call, MOST_READINGS};
 use crate::drivers::Drivers;
 use crate::frames;
 use plan::Plan;
@@ -26,8 +26,8 @@ impl Calls {
         Calls { rng: Rng::new(seed), drivers: Drivers::new(), small }
     }
 
-    /// Appends the frames of one more call.
-    pub fn put_next(&mut self, out: &mut Vec<u8>) {
+    /// One more call, with the readings that it takes and at times some more.
+    pub fn next_call(&mut self) -> Call {
         let mut call = Plan { rng: &mut self.rng, small: self.small }.call();
         let sim = Sim::new(Rng::new(self.rng.next()), call.kind);
         self.drivers.run(&call, Some(Box::new(sim)));
@@ -38,7 +38,12 @@ impl Calls {
             }
             call.readings.truncate(MOST_READINGS);
         }
-        frames::put_call(&call, out);
+        call
+    }
+
+    /// Appends the frames of one more call.
+    pub fn put_next(&mut self, out: &mut Vec<u8>) {
+        frames::put_call(&self.next_call(), out);
     }
 }
 

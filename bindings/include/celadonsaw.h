@@ -1,0 +1,181 @@
+/* The driver's calls, as the static libraries have them that `rt staticlib exports` (whole calls) and `rt staticlib
+ * exports_steps` (a transfer by steps) write to target/staticlib.
+ *
+ * A call is given the words that its register reads return (`readings`) and leaves a log of its accesses (`log`): two words an
+ * entry, the kind times 256 plus the register's offset or the mark, then the value. Kinds: 1 a read, 2 a write, 3 a mark (0 a
+ * poll that is not done, 1 a reset of the block). A log of n words has room for n / 2 entries.
+ *
+ * Every slice is a pointer and a length in elements. A pointer is never null and is aligned, also where the length is 0; a
+ * slice that a call writes overlaps no other slice of the call. Nothing else is asked of a caller: for every other input the
+ * call ends and leaves what docs/STATEMENTS.md says.
+ *
+ * Limits: a buffer, or one direction of a transaction in total, has at most 4,096 bytes, and a transaction at most 64 operations.
+ */
+#ifndef CELADONSAW_H
+#define CELADONSAW_H
+
+#include <stdbool.h>
+#include <stddef.h>
+#include <stdint.h>
+
+#ifdef __cplusplus
+extern "C" {
+#endif
+
+/* What a call answers. number 0: accepted. Otherwise the call was turned down:
+ *  1 frequency above 1,000,000        2 frequency 0                    3 clock above 1,431,655,765
+ *  4 a count above 65,535             5 a count too small              6 master address above 0x7F (detail: the address)
+ *  7 empty read                       8 empty blocking write           9 not acknowledged
+ * 10 arbitration lost                11 other abort (detail: the raw word)
+ * 12 TXFLR above 16 (the level)      13 empty response
+ * 14 listen buffer full, 15 the same with a general call (detail: the length)
+ * 16 slave address 0                 17 a pending byte and an empty listen buffer
+ * 18 a read is next, readings used up                                19 an access or mark is next, log full
+ * 20 over the limits, lengths that do not add up to the buffers, or a kind that is neither 0 nor 1
+ * 1, 2, 3, 6, 13, 16, 17 and 20 make no access; 4 and 5 none but ENABLE 0. Bytes not yet read stay as they are.
+ * detail of an accepted call: see the slave's calls; 0 of all others. */
+typedef struct {
+    uint8_t number;
+    uint32_t detail;
+    size_t entries; /* entries in the log */
+    size_t used;    /* readings used */
+} celadonsaw_report;
+
+/* Sets the bus frequency for a clock, both in Hz. Refusals: 1 to 5, 18, 19. */
+celadonsaw_report celadonsaw_set_config(uint32_t frequency, uint32_t clk,
+    const uint32_t *readings, size_t readings_len, uint32_t *log, size_t log_len);
+
+/* ---- the master's transfers: refusals 6 to 12 and 18 to 20 ---- */
+
+/* Reads into the buffer. Blocking, and by polls. An empty buffer is 7, after the address is set up. */
+celadonsaw_report celadonsaw_blocking_read(uint16_t address, uint8_t *read, size_t read_len,
+    const uint32_t *readings, size_t readings_len, uint32_t *log, size_t log_len);
+celadonsaw_report celadonsaw_read_async(uint16_t address, uint8_t *read, size_t read_len,
+    const uint32_t *readings, size_t readings_len, uint32_t *log, size_t log_len);
+
+/* Writes the bytes. Blocking (no bytes are 8), and by polls (no bytes are accepted). */
+celadonsaw_report celadonsaw_blocking_write(uint16_t address, const uint8_t *write, size_t write_len,
+    const uint32_t *readings, size_t readings_len, uint32_t *log, size_t log_len);
+celadonsaw_report celadonsaw_write_async(uint16_t address, const uint8_t *write, size_t write_len,
+    const uint32_t *readings, size_t readings_len, uint32_t *log, size_t log_len);
+
+/* Writes the bytes, then reads into the buffer. Blocking, and by polls. */
+celadonsaw_report celadonsaw_blocking_write_read(uint16_t address, const uint8_t *write, size_t write_len,
+    uint8_t *read, size_t read_len,
+    const uint32_t *readings, size_t readings_len, uint32_t *log, size_t log_len);
+celadonsaw_report celadonsaw_write_read_async(uint16_t address, const uint8_t *write, size_t write_len,
+    uint8_t *read, size_t read_len,
+    const uint32_t *readings, size_t readings_len, uint32_t *log, size_t log_len);
+
+/* Operations in order: kinds (0 a read, 1 a write) and lengths, as many of each. The writes' bytes stand end to end in `write`,
+ * the reads' in `read`. Blocking, and by polls (no operations: accepted without an access, at any address). */
+celadonsaw_report celadonsaw_transaction(uint16_t address, const uint8_t *kinds, size_t kinds_len,
+    const uint16_t *lengths, size_t lengths_len, const uint8_t *write, size_t write_len, uint8_t *read, size_t read_len,
+    const uint32_t *readings, size_t readings_len, uint32_t *log, size_t log_len);
+celadonsaw_report celadonsaw_transaction_async(uint16_t address, const uint8_t *kinds, size_t kinds_len,
+    const uint16_t *lengths, size_t lengths_len, const uint8_t *write, size_t write_len, uint8_t *read, size_t read_len,
+    const uint32_t *readings, size_t readings_len, uint32_t *log, size_t log_len);
+
+/* ---- the slave's calls: refusals 9 to 11 and 13 to 20 ---- */
+
+/* What lasts from call to call: hand each call what the one before it left. A new slave is all zeros. */
+typedef struct {
+    bool has_pending; /* a byte was received for the next message */
+    uint8_t pending_byte;
+    uint16_t address;
+    bool general_call;
+} celadonsaw_slave;
+
+typedef struct {
+    celadonsaw_slave state;
+    celadonsaw_report report;
+} celadonsaw_slave_report;
+
+/* Resets the block and sets address and general call; a pending byte stays. Address 0 is 16. */
+celadonsaw_slave_report celadonsaw_slave_reset(celadonsaw_slave slave, uint16_t address, bool general_call,
+    const uint32_t *readings, size_t readings_len, uint32_t *log, size_t log_len);
+
+/* Waits for a command. Accepted detail: 1 GeneralCall, 2 Read, 3 WriteRead, 4 Write in the upper half, the count of bytes in the
+ * lower. A message that fills the buffer is 14 or 15; an empty buffer with a pending byte is 17. */
+celadonsaw_slave_report celadonsaw_slave_listen(celadonsaw_slave slave, uint8_t *buffer, size_t buffer_len,
+    const uint32_t *readings, size_t readings_len, uint32_t *log, size_t log_len);
+
+/* Answers a read with the bytes. Accepted detail: 1 Done, 2 NeedMoreBytes, 3 LeftoverBytes in the upper half, the count in the
+ * lower. No bytes are 13. */
+celadonsaw_slave_report celadonsaw_slave_respond_to_read(celadonsaw_slave slave, const uint8_t *bytes, size_t bytes_len,
+    const uint32_t *readings, size_t readings_len, uint32_t *log, size_t log_len);
+
+/* Answers a read with the fill byte until it stops. */
+celadonsaw_slave_report celadonsaw_slave_respond_till_stop(celadonsaw_slave slave, uint8_t fill,
+    const uint32_t *readings, size_t readings_len, uint32_t *log, size_t log_len);
+
+/* Answers a read with the bytes, then with the fill byte. Detail as of `respond_to_read`. */
+celadonsaw_slave_report celadonsaw_slave_respond_and_fill(celadonsaw_slave slave, const uint8_t *bytes, size_t bytes_len,
+    uint8_t fill, const uint32_t *readings, size_t readings_len, uint32_t *log, size_t log_len);
+
+/* ---- a master transfer, one access at a time ----
+ *
+ *     celadonsaw_machine m = celadonsaw_start(...);
+ *     for (;;) {
+ *         celadonsaw_access a = celadonsaw_next_access(m, write, write_len);
+ *         if (a.kind == 0) break;                          -- a.number, a.value: the answer
+ *         uint32_t v = perform(a);                         -- 0 where nothing is read
+ *         m = celadonsaw_advance(m, v, ...);
+ *     }
+ *
+ * makes the accesses of the call, in order, and leaves its buffer and its answer. 18 and 19 are not told: readings and log are
+ * the caller's. */
+
+/* Where a transfer stands. The caller keeps it and does not look inside; a value that no step returned is not undefined
+ * behaviour, but makes some other transfer. */
+typedef struct {
+    uint8_t kind;
+    uint16_t count;
+    uint32_t word;
+} celadonsaw_failure;
+
+typedef struct {
+    uint8_t kind;
+    uint16_t index, count, remaining, queue, batch;
+    celadonsaw_failure failure;
+} celadonsaw_who;
+
+typedef struct {
+    uint8_t group, row;
+    uint32_t word;
+    celadonsaw_who who;
+} celadonsaw_place;
+
+typedef struct {
+    celadonsaw_place place;
+    bool queued, restart, send_stop;
+    uint16_t address, len;
+    size_t at, begun, reads, writes;
+} celadonsaw_machine;
+
+/* The access that is next: kind 1 reads the register at that offset, 2 writes the value to it, 3 is a mark (register 0: a poll
+ * is not done, wait for an interrupt or poll again), 0 is the end with the answer's number and, as value, its detail. */
+typedef struct {
+    uint8_t kind;
+    uint8_t reg;
+    uint8_t number;
+    uint32_t value;
+} celadonsaw_access;
+
+/* A transfer before its first access. queued: by polls, else blocking. restart: false for a transaction; true for a read (kinds
+ * {0}), a write ({1}) or a write-read ({1, 0}). write_len and read_len are the buffers' lengths: 20 where the lengths do not add
+ * up to them. kinds, lengths and both buffers stay the same up to the end. */
+celadonsaw_machine celadonsaw_start(bool queued, bool restart, uint16_t address, const uint8_t *kinds, size_t kinds_len,
+    const uint16_t *lengths, size_t lengths_len, size_t write_len, size_t read_len);
+
+celadonsaw_access celadonsaw_next_access(celadonsaw_machine machine, const uint8_t *write, size_t write_len);
+
+/* The transfer after that access, which read `value`; a byte received is stored in `read`. At the end nothing changes. */
+celadonsaw_machine celadonsaw_advance(celadonsaw_machine machine, uint32_t value, const uint8_t *kinds, size_t kinds_len,
+    const uint16_t *lengths, size_t lengths_len, uint8_t *read, size_t read_len);
+
+#ifdef __cplusplus
+}
+#endif
+
+#endif

@@ -1,0 +1,250 @@
+//! The static library's structs and functions, as `include/celadonsaw.h` declares them.
+
+mod calls;
+
+pub use calls::*;
+
+#[repr(C)]
+#[derive(Clone, Copy)]
+pub struct Report {
+    pub number: u8,
+    pub detail: u32,
+    pub entries: usize,
+    pub used: usize,
+}
+
+#[repr(C)]
+#[derive(Clone, Copy)]
+pub struct Slave {
+    pub has_pending: bool,
+    pub pending_byte: u8,
+    pub address: u16,
+    pub general_call: bool,
+}
+
+#[repr(C)]
+#[derive(Clone, Copy)]
+pub struct SlaveReport {
+    pub state: Slave,
+    pub report: Report,
+}
+
+#[repr(C)]
+#[derive(Clone, Copy)]
+struct Failure {
+    kind: u8,
+    count: u16,
+    word: u32,
+}
+
+#[repr(C)]
+#[derive(Clone, Copy)]
+struct Who {
+    kind: u8,
+    index: u16,
+    count: u16,
+    remaining: u16,
+    queue: u16,
+    batch: u16,
+    failure: Failure,
+}
+
+#[repr(C)]
+#[derive(Clone, Copy)]
+struct Place {
+    group: u8,
+    row: u8,
+    word: u32,
+    who: Who,
+}
+
+/// Nothing outside the library looks inside.
+#[repr(C)]
+#[derive(Clone, Copy)]
+pub struct Machine {
+    place: Place,
+    queued: bool,
+    restart: bool,
+    send_stop: bool,
+    address: u16,
+    len: u16,
+    at: usize,
+    begun: usize,
+    reads: usize,
+    writes: usize,
+}
+
+#[repr(C)]
+#[derive(Clone, Copy)]
+pub struct Access {
+    pub kind: u8,
+    pub register: u8,
+    pub number: u8,
+    pub value: u32,
+}
+
+extern "C" {
+    fn celadonsaw_set_config(
+        frequency: u32,
+        clk: u32,
+        readings: *const u32,
+        readings_len: usize,
+        log: *mut u32,
+        log_len: usize,
+    ) -> Report;
+    fn celadonsaw_blocking_read(
+        address: u16,
+        read: *mut u8,
+        read_len: usize,
+        readings: *const u32,
+        readings_len: usize,
+        log: *mut u32,
+        log_len: usize,
+    ) -> Report;
+    fn celadonsaw_blocking_write(
+        address: u16,
+        write: *const u8,
+        write_len: usize,
+        readings: *const u32,
+        readings_len: usize,
+        log: *mut u32,
+        log_len: usize,
+    ) -> Report;
+    fn celadonsaw_blocking_write_read(
+        address: u16,
+        write: *const u8,
+        write_len: usize,
+        read: *mut u8,
+        read_len: usize,
+        readings: *const u32,
+        readings_len: usize,
+        log: *mut u32,
+        log_len: usize,
+    ) -> Report;
+    fn celadonsaw_transaction(
+        address: u16,
+        kinds: *const u8,
+        kinds_len: usize,
+        lengths: *const u16,
+        lengths_len: usize,
+        write: *const u8,
+        write_len: usize,
+        read: *mut u8,
+        read_len: usize,
+        readings: *const u32,
+        readings_len: usize,
+        log: *mut u32,
+        log_len: usize,
+    ) -> Report;
+    fn celadonsaw_read_async(
+        address: u16,
+        read: *mut u8,
+        read_len: usize,
+        readings: *const u32,
+        readings_len: usize,
+        log: *mut u32,
+        log_len: usize,
+    ) -> Report;
+    fn celadonsaw_write_async(
+        address: u16,
+        write: *const u8,
+        write_len: usize,
+        readings: *const u32,
+        readings_len: usize,
+        log: *mut u32,
+        log_len: usize,
+    ) -> Report;
+    fn celadonsaw_write_read_async(
+        address: u16,
+        write: *const u8,
+        write_len: usize,
+        read: *mut u8,
+        read_len: usize,
+        readings: *const u32,
+        readings_len: usize,
+        log: *mut u32,
+        log_len: usize,
+    ) -> Report;
+    fn celadonsaw_transaction_async(
+        address: u16,
+        kinds: *const u8,
+        kinds_len: usize,
+        lengths: *const u16,
+        lengths_len: usize,
+        write: *const u8,
+        write_len: usize,
+        read: *mut u8,
+        read_len: usize,
+        readings: *const u32,
+        readings_len: usize,
+        log: *mut u32,
+        log_len: usize,
+    ) -> Report;
+    fn celadonsaw_slave_reset(
+        slave: Slave,
+        address: u16,
+        general_call: bool,
+        readings: *const u32,
+        readings_len: usize,
+        log: *mut u32,
+        log_len: usize,
+    ) -> SlaveReport;
+    fn celadonsaw_slave_listen(
+        slave: Slave,
+        buffer: *mut u8,
+        buffer_len: usize,
+        readings: *const u32,
+        readings_len: usize,
+        log: *mut u32,
+        log_len: usize,
+    ) -> SlaveReport;
+    fn celadonsaw_slave_respond_to_read(
+        slave: Slave,
+        bytes: *const u8,
+        bytes_len: usize,
+        readings: *const u32,
+        readings_len: usize,
+        log: *mut u32,
+        log_len: usize,
+    ) -> SlaveReport;
+    fn celadonsaw_slave_respond_till_stop(
+        slave: Slave,
+        fill: u8,
+        readings: *const u32,
+        readings_len: usize,
+        log: *mut u32,
+        log_len: usize,
+    ) -> SlaveReport;
+    fn celadonsaw_slave_respond_and_fill(
+        slave: Slave,
+        bytes: *const u8,
+        bytes_len: usize,
+        fill: u8,
+        readings: *const u32,
+        readings_len: usize,
+        log: *mut u32,
+        log_len: usize,
+    ) -> SlaveReport;
+    fn celadonsaw_start(
+        queued: bool,
+        restart: bool,
+        address: u16,
+        kinds: *const u8,
+        kinds_len: usize,
+        lengths: *const u16,
+        lengths_len: usize,
+        written: usize,
+        room: usize,
+    ) -> Machine;
+    fn celadonsaw_next_access(machine: Machine, write: *const u8, write_len: usize) -> Access;
+    fn celadonsaw_advance(
+        machine: Machine,
+        value: u32,
+        kinds: *const u8,
+        kinds_len: usize,
+        lengths: *const u16,
+        lengths_len: usize,
+        read: *mut u8,
+        read_len: usize,
+    ) -> Machine;
+}

@@ -1,0 +1,106 @@
+//! A master transfer, one access at a time.
+use crate::{raw, Refusal};
+
+const MOST_OPERATIONS: usize = 64;
+
+/// An operation of a transaction, with its number of bytes.
+#[derive(Clone, Copy, PartialEq, Eq, Debug)]
+pub enum Operation {
+    Read(u16),
+    Write(u16),
+}
+
+/// What a transfer does next.
+#[derive(Clone, Copy, PartialEq, Eq, Debug)]
+pub enum Access {
+    /// The register at this offset is to be read, and what it holds handed to [`Transfer::advance`].
+    Read(u8),
+    /// The word is to be written to the register at this offset.
+    Write(u8, u32),
+    /// A poll is not done: wait for an interrupt, or poll again at once.
+    Pending,
+    /// The transfer is over.
+    Ended(Result<(), Refusal>),
+}
+
+/// A transfer under way, over the buffers that it is given.
+pub struct Transfer<'a> {
+    machine: raw::Machine,
+    kinds: [u8; MOST_OPERATIONS],
+    lengths: [u16; MOST_OPERATIONS],
+    count: usize,
+    write: &'a [u8],
+    read: &'a mut [u8],
+}
+
+impl<'a> Transfer<'a> {
+    /// `queued` takes the async form. More than 64 operations are refused as any transfer over the limits.
+    fn start(
+        queued: bool,
+        restart: bool,
+        address: u16,
+        operations: &[Operation],
+        write: &'a [u8],
+        read: &'a mut [u8],
+    ) -> Self {
+        let mut kinds = [0; MOST_OPERATIONS];
+        let mut lengths = [0; MOST_OPERATIONS];
+        for ((kind, length), operation) in kinds.iter_mut().zip(&mut lengths).zip(operations) {
+            (*kind, *length) = match *operation {
+                Operation::Read(count) => (0, count),
+                Operation::Write(count) => (1, count),
+            };
+        }
+        let count = operations.len().min(MOST_OPERATIONS);
+        // Kinds and lengths that differ in number are refused too.
+        let kinds_told = if operations.len() > MOST_OPERATIONS { &[] } else { &kinds[..count] };
+        let machine = raw::start(queued, restart, address, kinds_told, &lengths[..count], write.len(), read.len());
+        Transfer { machine, kinds, lengths, count, write, read }
+    }
+
+    pub fn read(queued: bool, address: u16, read: &'a mut [u8]) -> Self {
+        Self::start(queued, true, address, &[Operation::Read(length(read))], &[], read)
+    }
+
+    pub fn write(queued: bool, address: u16, write: &'a [u8]) -> Self {
+        Self::start(queued, true, address, &[Operation::Write(length(write))], write, &mut [])
+    }
+
+    pub fn write_read(queued: bool, address: u16, write: &'a [u8], read: &'a mut [u8]) -> Self {
+        let operations = [Operation::Write(length(write)), Operation::Read(length(read))];
+        Self::start(queued, true, address, &operations, write, read)
+    }
+
+    /// The writes' bytes stand end to end in `write`, the reads' in `read`.
+    pub fn transaction(
+        queued: bool,
+        address: u16,
+        operations: &[Operation],
+        write: &'a [u8],
+        read: &'a mut [u8],
+    ) -> Self {
+        Self::start(queued, false, address, operations, write, read)
+    }
+
+    pub fn next_access(&self) -> Access {
+        let access = raw::next_access(self.machine, self.write);
+        match access.kind {
+            1 => Access::Read(access.register),
+            2 => Access::Write(access.register, access.value),
+            3 => Access::Pending,
+            _ if access.number == 0 => Access::Ended(Ok(())),
+            _ => Access::Ended(Err(Refusal::from_number(access.number, access.value))),
+        }
+    }
+
+    /// Goes on after the access, which read `value` (0 where it read nothing).
+    pub fn advance(&mut self, value: u32) {
+        let (kinds, lengths) = (&self.kinds[..self.count], &self.lengths[..self.count]);
+        self.machine = raw::advance(self.machine, value, kinds, lengths, self.read);
+    }
+}
+
+/// A length above 16 bits is over the limits, and so is this one.
+fn length(buffer: &[u8]) -> u16 {
+    buffer.len().try_into().unwrap_or(u16::MAX)
+}

@@ -1,0 +1,27 @@
+-- `exports::slave_calls::celadonsaw_slave_respond_to_read` meets its contract.
+use Rattle.exports.proofs.Reported.{handed-on}
+use borrow.Author.Needs.{needs}
+use Rattle.exports.proofs.slave_calls.celadonsaw_slave_respond_to_read.Statement.{
+  statement,
+}
+use Rattle.exports.proofs.slave_calls.celadonsaw_slave_respond_to_read.Tie as tie
+
+state-requires : tie.Need-state-requires
+state-requires c κs = search needs
+
+respond-to-read-from-requires : tie.Need-respond-to-read-from-requires
+respond-to-read-from-requires c κs = search needs
+
+both-requires : tie.Need-both-requires
+both-requires c κs = search needs
+
+same-length : tie.Need-same-length
+same-length c = search needs
+
+returns : tie.Need-returns
+returns c = handed-on (c .before .before .before .respond-to-read-from .result) (rw (c .before .before .before .before .before .state .ensures) at (c .before .before .before .respond-to-read-from .ensures)) (c .both .ensures)
+
+pub celadonsaw-slave-respond-to-read-spec : {M : Type 1} → statement M
+celadonsaw-slave-respond-to-read-spec =
+    tie.close
+    (tie.spec state-requires respond-to-read-from-requires both-requires same-length returns)

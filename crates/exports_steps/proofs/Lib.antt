@@ -1,0 +1,2 @@
+-- What holds of the steps.
+pub mod Driven

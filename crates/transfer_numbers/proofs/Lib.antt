@@ -1,0 +1,2 @@
+-- What holds of a transfer as numbers.
+pub mod Kept

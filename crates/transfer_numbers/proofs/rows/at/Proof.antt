@@ -1,0 +1,12 @@
+-- `transfer_numbers::rows::at` meets its contract.
+use mathlib.Core.Path.{refl}
+use Rattle.transfer_numbers.specs.Numbers.{place-row}
+use Rattle.transfer_numbers.proofs.rows.at.Statement.{statement}
+use Rattle.transfer_numbers.proofs.rows.at.Tie as tie
+
+returns : tie.Need-returns
+unfolding place-row
+returns c = refl
+
+pub at-spec : {M : Type 1} → statement M
+at-spec = tie.close (tie.spec returns)
