@@ -2,57 +2,28 @@
 use Prim.Native.Nat.{ℕ, zero, suc, _+_, _%_, _/_, _<_, _≤_}
 use native.Mathlib.Omega.{arith}
 use mathlib.Core.List.{List, [], _∷_, _++_, append-assoc}
-use mathlib.Core.Bool.{Bool, true, false, not, _&&_, _||_}
+use mathlib.Core.Bool.{Bool, true, false, _&&_}
 use mathlib.Core.Path.{_≡_, refl, sym, ap, _∙_}
 use lib.Dec.{eqb, ltb}
 use lib.ListN.{length, take, drop, getD, length-append, length-drop}
 use lib.Seq.{take-append-seam, getD-take, drop-append-le}
-use borrow.Author.Tests.{lt-ltb, ne-eqb, eq-eqb, eqb-true, eqb-false}
+use borrow.Author.Tests.{ne-eqb, eq-eqb, eqb-true, eqb-false}
 use Rattle.regs.specs.Program.{if_then_else_}
-use Rattle.master.specs.Operations.{writes}
 use Rattle.frames_text.specs.Text.{digit-of, number-at, these, none, bytes-of}
 use Rattle.frames_text.specs.Pairs.{all-digits, whole-pairs, values}
 use Rattle.frames_text.proofs.Pairs.{digits-joined, length-values, written, unwritten}
-use Rattle.calls.specs.Calls.{Listed, listing, over}
-use Rattle.lines.specs.Frame.{Frame, bad, plain-of, head-of, width, bytes-frame, frame-of}
+use Rattle.lines.specs.Frame.{bad, head-of, width, bytes-frame, frame-of}
 use Rattle.lines.proofs.Lengths.{long-bad}
 use Rattle.lines.specs.declared.Line.{Line}
 use Rattle.lines.specs.declared.Line.the-variants as Line
 use Rattle.lines.specs.declared.Head.{Head}
 use Rattle.lines.specs.declared.Head.the-variants.{Plain, Bytes}
-use Rattle.session.specs.Session.{write-taken, refusal}
-use Rattle.session.specs.Bounded.{Kept, kept, large, bounded, with-operation, add, Held, idle, within, operation, next-held}
+use Rattle.session.specs.Session.{refusal}
+use Rattle.session.specs.Bounded.{Held, next-held}
 use Rattle.session.specs.Enter.{LONGEST-KEPT}
-use Rattle.session.proofs.Bound.{bounded-more, false-true}
+use Rattle.session.proofs.Bound.{false-true, wide-alike}
 use Rattle.reader.specs.Rest.{long-line, digits-more, from-line}
 use Rattle.reader.proofs.Lines.{alike-begun, doomed-begun}
-
--- ---- more bytes than any call may have, whichever they are
-
-wide : (l : Listed) (bs : List ℕ) → 4096 < length bs → bounded (with-operation l (writes bs)) ≡ large
-wide l bs h = rw beyond
-  where
-    last : (b c : Bool) → b || (true || c) ≡ true
-    last true c = refl
-    last false c = refl
-
-    beyond : over (with-operation l (writes bs)) ≡ true
-    beyond = rw (lt-ltb 4096 (length (l .bytes ++ bs)) (rw length-append (omega arith))) (last (ltb 64 (length (l .kinds ++ (1 ∷ [])))) (ltb 4096 (l .room)))
-
-add-wide : (k : Kept) (bs : List ℕ) → 4096 < length bs → add k (writes bs) ≡ large
-add-wide large bs h = refl
-add-wide (kept l) bs h = wide l bs h
-
-opens-wide : (bs : List ℕ) → 4096 < length bs → bounded (listing (writes bs ∷ [])) ≡ large
-opens-wide bs h = bounded-more [] (writes bs) ∙ add-wide (bounded (listing [])) bs h
-
-pub wide-alike : (h : Held) (l : Line) (bs cs : List ℕ) → 4096 < length bs → 4096 < length cs → next-held h (bytes-frame l (these bs)) ≡ next-held h (bytes-frame l (these cs))
-wide-alike (idle s) Line.Write bs cs p q = refl
-wide-alike (idle s) Line.Respond bs cs p q = rw (opens-wide bs p, opens-wide cs q)
-wide-alike (idle s) (Line.RespondAndFill b) bs cs p q = rw (opens-wide bs p, opens-wide cs q)
-wide-alike (within s c w k rs) Line.Write bs cs p q = rw (add-wide k bs p, add-wide k cs q)
-wide-alike (within s c w k rs) Line.Respond bs cs p q = refl
-wide-alike (within s c w k rs) (Line.RespondAndFill b) bs cs p q = refl
 
 -- what is not even is odd
 odd-one : (m : ℕ) → eqb (m % 2) 0 ≡ false → m % 2 ≡ 1

@@ -10,10 +10,12 @@ use borrow.Author.Tests.{ltb-true, lt-ltb}
 use Rattle.regs.specs.Program.{if_then_else_}
 use Rattle.master.specs.Operations.{Operation, writes, reads, READ, WRITE}
 use Rattle.slave_state.specs.declared.SlaveState.{SlaveState}
-use Rattle.frames_text.specs.Text.{lines}
 use Rattle.calls.specs.Calls.{MOST-READINGS, Listed, listed, listing, over, call-text, slave-after}
 use Rattle.calls.specs.declared.Call.{Call}
-use Rattle.lines.specs.Frame.{Frame, opens, write, read, reading, run, bad, frame-of}
+use Rattle.frames_text.specs.Text.{lines, these}
+use Rattle.lines.specs.Frame.{Frame, opens, write, read, reading, run, bad, bytes-frame, frame-of}
+use Rattle.lines.specs.declared.Line.{Line}
+use Rattle.lines.specs.declared.Line.the-variants as Line
 use Rattle.session.specs.Session.{Next, going, malformed, Session, wants-of, read-taken, write-taken, complete, next, is-open, onward, line-after, printed-from, printed, fresh}
 use Rattle.session.specs.Session as S
 use Rattle.session.specs.Bounded.{Kept, kept, large, bounded, with-operation, add, Held, idle, within, operation, kept-text, kept-slave, next-held, holds-call}
@@ -75,6 +77,33 @@ bounded-more os o = rw (listing-more os o) (go (over (listing os)) refl)
     go : (b : Bool) → over (listing os) ≡ b → bounded (with-operation (listing os) o) ≡ add (bounded (listing os)) o
     go true e = rw (e, over-more (listing os) o e)
     go false e = rw e
+
+-- ---- more bytes than any call may have, whichever they are
+
+wide : (l : Listed) (bs : List ℕ) → 4096 < length bs → bounded (with-operation l (writes bs)) ≡ large
+wide l bs h = rw beyond
+  where
+    last : (b c : Bool) → b || (true || c) ≡ true
+    last true c = refl
+    last false c = refl
+
+    beyond : over (with-operation l (writes bs)) ≡ true
+    beyond = rw (lt-ltb 4096 (length (l .bytes ++ bs)) (rw length-append (omega arith))) (last (ltb 64 (length (l .kinds ++ (1 ∷ [])))) (ltb 4096 (l .room)))
+
+pub add-wide : (k : Kept) (bs : List ℕ) → 4096 < length bs → add k (writes bs) ≡ large
+add-wide large bs h = refl
+add-wide (kept l) bs h = wide l bs h
+
+opens-wide : (bs : List ℕ) → 4096 < length bs → bounded (listing (writes bs ∷ [])) ≡ large
+opens-wide bs h = bounded-more [] (writes bs) ∙ add-wide (bounded (listing [])) bs h
+
+pub wide-alike : (h : Held) (l : Line) (bs cs : List ℕ) → 4096 < length bs → 4096 < length cs → next-held h (bytes-frame l (these bs)) ≡ next-held h (bytes-frame l (these cs))
+wide-alike (idle s) Line.Write bs cs p q = refl
+wide-alike (idle s) Line.Respond bs cs p q = rw (opens-wide bs p, opens-wide cs q)
+wide-alike (idle s) (Line.RespondAndFill b) bs cs p q = rw (opens-wide bs p, opens-wide cs q)
+wide-alike (within s c w k rs) Line.Write bs cs p q = rw (add-wide k bs p, add-wide k cs q)
+wide-alike (within s c w k rs) Line.Respond bs cs p q = refl
+wide-alike (within s c w k rs) (Line.RespondAndFill b) bs cs p q = refl
 
 -- ---- session by session
 

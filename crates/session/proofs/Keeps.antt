@@ -9,14 +9,14 @@ use mathlib.Core.Path.{_≡_, refl, sym, ap, _∙_}
 use lib.Dec.{ltb}
 use lib.ListN.{length, take, drop, set, length-append, length-drop, length-set}
 use lib.Seq.{take-suc-set, take-add, length-take-le}
-use borrow.Author.Tests.{ltb-false, lt-ltb}
+use borrow.Author.Tests.{ltb-false}
 use Rattle.regs.specs.Program.{if_then_else_}
 use Rattle.master.specs.Operations.{writes, reads}
 use Rattle.calls.specs.Calls.{MOST-READINGS, listed, over}
 use Rattle.session.specs.Bounded.{Kept, kept, large, bounded, with-operation, add}
 use Rattle.session.specs.Enter.{Arrays, arrays, kept-of, Within, Lent, over-of, too-many, added-to}
 use Rattle.session.specs.declared.Counts.{Counts}
-use Rattle.session.proofs.Bound.{false-true}
+use Rattle.session.proofs.Bound.{false-true, add-wide}
 
 -- none of three tests
 none-of : (a b c : Bool) → a || (b || c) ≡ false → (a ≡ false) × (b ≡ false) × (c ≡ false)
@@ -118,18 +118,7 @@ module _ (n : Counts) (a : Arrays) (h : Within n) (l : Lent a) where
 
   -- a write of more bytes than any call may have
   pub kept-wide : (bs : List ℕ) → 4096 < length bs → kept-of (over-of n) a ≡ add (kept-of n a) (writes bs)
-  kept-wide bs h = go (n .large) refl
-    where
-      last : (b c : Bool) → b || (true || c) ≡ true
-      last true c = refl
-      last false c = refl
-
-      beyond : over (listed (take (n .ops) (a .kinds) ++ (1 ∷ [])) (take (n .ops) (a .lengths) ++ (length bs ∷ [])) (take (n .bytes) (a .bytes) ++ bs) (n .reads)) ≡ true
-      beyond = rw (lt-ltb 4096 (length (take (n .bytes) (a .bytes) ++ bs)) (rw length-append (omega arith))) (last (ltb 64 (length (take (n .ops) (a .kinds) ++ (1 ∷ [])))) (ltb 4096 (n .reads)))
-
-      go : (g : Bool) → n .large ≡ g → kept-of (over-of n) a ≡ add (kept-of n a) (writes bs)
-      go true eg = rw eg
-      go false eg = rw (eg, beyond)
+  kept-wide bs h = sym (add-wide (kept-of n a) bs h)
 
   -- a read of m bytes
   pub kept-read : (m : ℕ) → kept-of (added-to n 0 m) (stored n a 0 m) ≡ add (kept-of n a) (reads m)
