@@ -1,9 +1,9 @@
--- `replay::replay` meets its contract.
+-- `replay_input::replay` meets its contract.
 use native.Mathlib.Omega.{arith}
 use Rattle.replay_feed.proofs.Fine.{starts}
 use borrow.Author.Needs.{needs}
-use Rattle.replay.proofs.replay.Statement.{statement}
-use Rattle.replay.proofs.replay.Tie as tie
+use Rattle.replay_input.proofs.replay.Statement.{statement}
+use Rattle.replay_input.proofs.replay.Tie as tie
 
 start-requires : tie.Need-start-requires
 start-requires c κs = search needs

@@ -1,11 +1,11 @@
--- `replay::read_all` meets its contract.
+-- `replay_input::read_all` meets its contract.
 use borrow.Author.Needs.{needs}
 use mathlib.Core.Path.{_≡_, refl, _∙_}
 use native.Mathlib.Omega.{arith}
 use lib.ListN.{length}
 use Rattle.replay_feed.proofs.Fine.{Fine}
-use Rattle.replay.proofs.read_all.Statement.{statement}
-use Rattle.replay.proofs.read_all.Tie as tie
+use Rattle.replay_input.proofs.read_all.Statement.{statement}
+use Rattle.replay_input.proofs.read_all.Tie as tie
 
 abbrev Inv-loop : tie.InvT-loop
 Inv-loop chunk₀ text₀ kinds₀ lengths₀ bytes₀ readings₀ buffer₀ log₀ out₀ state₀ turns₀ chunk text kinds lengths bytes readings buffer log out state turns = Fine state text kinds lengths bytes readings buffer log out out₀ × (length chunk ≡ length chunk₀)

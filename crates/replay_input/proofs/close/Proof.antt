@@ -1,9 +1,9 @@
--- `replay::close` meets its contract.
+-- `replay_input::close` meets its contract.
 use mathlib.Core.Path.{sym}
 use lib.Seq.{length-take-le}
 use borrow.Author.Needs.{needs}
-use Rattle.replay.proofs.close.Statement.{statement}
-use Rattle.replay.proofs.close.Tie as tie
+use Rattle.replay_input.proofs.close.Statement.{statement}
+use Rattle.replay_input.proofs.close.Tie as tie
 
 finish-requires : tie.Need-finish-requires
 finish-requires c κs = search needs
