@@ -9,6 +9,8 @@ use reader::fresh_slave;
 use reader::turns::end_line;
 use reader::turns::line_feed;
 use reader::turns::one;
+use readings_run::after_run;
+use readings_run::run_readings;
 use session::enter::closed;
 use session_lines::enter_line;
 ghost use mathlib.Core.Path.{_≡_};
@@ -28,7 +30,7 @@ pub struct Fed {
 }
 
 // A whole line of the chunk, where one is ahead, or else a byte.
-fn step(
+fn line_or_byte(
     chunk: &[u8],
     i: usize,
     s: State,
@@ -94,6 +96,49 @@ fn step(
         used,
         made: t.made,
     }
+}
+
+// A run of readings, where one is ahead, or else a line or a byte.
+fn step(
+    chunk: &[u8],
+    i: usize,
+    s: State,
+    text: &mut [u8],
+    kinds: &mut [u8],
+    lengths: &mut [u16],
+    bytes: &mut [u8],
+    readings: &mut [u32],
+    buffer: &mut [u8],
+    log: &mut [u32],
+    out: &mut [u8],
+    at: usize,
+) -> Fed
+    requires { ⌜ Sound (whole s (now text) (now kinds) (now lengths) (now bytes) (now readings) (now buffer) (now log)) × (at + MOST-TEXT ≤ length (now out)) × (i < length (now chunk)) ⌝ }
+    ensures { λ r. ⌜ Went (whole s (now (text .entry)) (now (kinds .entry)) (now (lengths .entry)) (now (bytes .entry)) (now (readings .entry)) (now (buffer .entry)) (now (log .entry))) (now (out .entry)) at (drop i (now (chunk .entry))) (whole (r .state) (now (text .exit)) (now (kinds .exit)) (now (lengths .exit)) (now (bytes .exit)) (now (readings .exit)) (now (buffer .exit)) (now (log .exit))) (now (out .exit)) (r .made) (drop (r .used) (now (chunk .entry))) × (r .made ≤ at + MOST-TEXT) × (i < r .used) × (r .used ≤ length (now (chunk .entry))) ⌝ }
+{
+    let r = run_readings(chunk, i, s, readings);
+    if i < r.used {
+        let state = after_run(s, r);
+        return Fed {
+            state,
+            used: r.used,
+            made: at,
+        };
+    }
+    line_or_byte(
+        chunk,
+        i,
+        s,
+        text,
+        kinds,
+        lengths,
+        bytes,
+        readings,
+        buffer,
+        log,
+        out,
+        at,
+    )
 }
 
 fn is_stopped(s: State) -> bool

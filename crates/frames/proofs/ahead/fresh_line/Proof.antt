@@ -1,6 +1,6 @@
 -- `frames::ahead::fresh_line` meets its contract.
 use native.Mathlib.Omega.{arith}
-use Rattle.frames.proofs.Scans.{scan-not}
+use Rattle.readings_run.proofs.Scans.{scan-not}
 use borrow.Author.Tests.{eq-eqb, ne-eqb}
 use borrow.Author.Needs.{needs}
 use Rattle.frames.proofs.ahead.fresh_line.Statement.{statement}

@@ -2,7 +2,7 @@
 use borrow.Author.Needs.{needs}
 use Prim.Native.Nat.{_-_}
 use native.Mathlib.Omega.{arith}
-use Rattle.frames.proofs.Scans.{Scanned, scan-none, scan-not, scan-found, scan-more}
+use Rattle.readings_run.proofs.Scans.{Scanned, scan-none, scan-not, scan-found, scan-more}
 use Rattle.frames.proofs.ahead.line_ahead.Statement.{statement}
 use Rattle.frames.proofs.ahead.line_ahead.Tie as tie
 
