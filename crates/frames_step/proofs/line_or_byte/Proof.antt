@@ -1,13 +1,13 @@
--- `frames::line_or_byte` meets its contract.
+-- `frames_step::line_or_byte` meets its contract.
 use mathlib.Core.Path.{_≡_, refl, _∙_}
 use Prim.Native.Nat.{_+_, _-_}
 use native.Mathlib.Omega.{arith}
 use Rattle.session.specs.Enter.{arrays}
 use Rattle.reader.proofs.Steps.{ahead-short, line-read}
-use Rattle.frames.proofs.Feeds.{byte-read}
+use Rattle.frames_step.proofs.Bytes.{byte-read}
 use borrow.Author.Needs.{needs}
-use Rattle.frames.proofs.line_or_byte.Statement.{statement}
-use Rattle.frames.proofs.line_or_byte.Tie as tie
+use Rattle.frames_step.proofs.line_or_byte.Statement.{statement}
+use Rattle.frames_step.proofs.line_or_byte.Tie as tie
 
 fresh-line-requires : tie.Need-fresh-line-requires
 fresh-line-requires c κs = search needs
