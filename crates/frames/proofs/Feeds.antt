@@ -1,14 +1,12 @@
 -- The loop over a chunk, and the end of the input.
 use Prim.Native.Nat.{ℕ, zero, suc, _+_, _-_, _<_, _≤_, min}
 use native.Mathlib.Omega.{arith}
-use native.Mathlib.Numerals.{add-one}
 use native.Mathlib.Nat.{suc-min-suc}
 use mathlib.Core.List.{List, [], _∷_, _++_, append-nil}
 use mathlib.Core.Bool.{Bool, true, false}
 use mathlib.Core.Path.{_≡_, refl, sym, ap, _∙_}
 use lib.Dec.{ltb}
-use lib.ListN.{length, take, drop, getD, length-append, length-take}
-use lib.Seq.{drop-cons}
+use lib.ListN.{length, take, drop, length-append, length-take}
 use borrow.Author.Tests.{ltb-true, ltb-false}
 use Rattle.regs.specs.Program.{if_then_else_}
 use Rattle.frames_text.specs.Text.{lines-after, last-line}
@@ -22,13 +20,6 @@ use Rattle.reader.specs.Rest.{Whole, rest, rest-of, from-line, digits-more, Sou
 use Rattle.frames.specs.Fed.{FedAs, Finished}
 use Rattle.reader.specs.declared.Part.{Part}
 use Rattle.reader.specs.declared.Part.the-variants.{Stopped, Text, Long}
-
--- a byte of a chunk
-pub byte-read : {v w : Whole} {out₀ out : List ℕ} {at end x : ℕ} (chunk : List ℕ) (i : ℕ) → i < length chunk → x ≡ getD chunk i 0
-    → Went v out₀ at (x ∷ []) w out end [] → Went v out₀ at (drop i chunk) w out end (drop (i + 1) chunk)
-byte-read {v} {out₀ = out₀} {at = at} {x = x} chunk i h e d =
-    let c : drop i chunk ≡ x ∷ drop (i + 1) chunk = rw (add-one, e) (drop-cons chunk i 0 h) in
-    record { same = λ input. ap (λ (b : List ℕ). take at out₀ ++ rest v (b ++ input)) c ∙ d .same (drop (i + 1) chunk ++ input); sound = d .sound }
 
 -- what holds at the head of the loop
 pub record Feeding (v : Whole) (chunk out₀ : List ℕ) (w : Whole) (out : List ℕ) (n end : ℕ) : Type 0 where

@@ -1,4 +1,3 @@
 -- What the proofs of the functions cite, and the claim over them.
-pub mod Scans
 pub mod Feeds
 pub mod EverySplit

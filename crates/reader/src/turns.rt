@@ -27,7 +27,7 @@ ghost use Rattle.session.specs.Session.{refusal, line-after};
 ghost use Rattle.session.specs.Enter.{LONGEST-KEPT};
 ghost use Rattle.reader.specs.Rest.{whole, Sound, Went, EndedAs, TurnedTo, KeptAs, LongEndedAs, long-line, stopped-at, with-part, begun-of};
 
-fn next_line(line: u32) -> u32
+pub fn next_line(line: u32) -> u32
     ensures { λ r. ⌜ r ≡ line-after line ⌝ }
 {
     if line < 4294967295 { line + 1 } else { line }

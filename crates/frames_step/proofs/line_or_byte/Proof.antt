@@ -1,13 +1,13 @@
--- `frames::step` meets its contract.
+-- `frames_step::line_or_byte` meets its contract.
 use mathlib.Core.Path.{_≡_, refl, _∙_}
 use Prim.Native.Nat.{_+_, _-_}
 use native.Mathlib.Omega.{arith}
 use Rattle.session.specs.Enter.{arrays}
 use Rattle.reader.proofs.Steps.{ahead-short, line-read}
-use Rattle.frames.proofs.Feeds.{byte-read}
+use Rattle.frames_step.proofs.Bytes.{byte-read}
 use borrow.Author.Needs.{needs}
-use Rattle.frames.proofs.step.Statement.{statement}
-use Rattle.frames.proofs.step.Tie as tie
+use Rattle.frames_step.proofs.line_or_byte.Statement.{statement}
+use Rattle.frames_step.proofs.line_or_byte.Tie as tie
 
 fresh-line-requires : tie.Need-fresh-line-requires
 fresh-line-requires c κs = search needs
@@ -93,8 +93,8 @@ same-length-15 c = search needs
 returns-2 : tie.Need-returns-2
 returns-2 c = let a = c .before .before .before .before .before .before .before .before .before .before .before .before .before .before .before .before .before .before .before .before .before .before .before .before .before .before .before .before .before .before .before .before .before .before .before .before .before .before .args in (byte-read (a .chunk .now) (a .i) (c .before .before .before .before .before .before .before .before .before .before .before .before .before .before .before .before .before .before .before .before .before .before .before .before .before .before .before .before .before .before .before .before .before .before .before .before .before .before .pre .2) refl (c .before .before .before .before .before .before .before .before .before .before .before .before .before .before .before .before .before .one .ensures .0), c .before .before .before .before .before .before .before .before .before .before .before .before .before .before .before .before .before .one .ensures .1, omega arith, omega (arith, c .before .before .before .before .before .before .before .before .before .before .before .before .before .before .before .before .before .before .before .before .before .before .before .before .before .before .before .before .before .before .before .before .before .before .before .before .before .before .pre .2))
 
-pub step-spec : {M : Type 1} → statement M
-step-spec =
+pub line-or-byte-spec : {M : Type 1} → statement M
+line-or-byte-spec =
     tie.close
     (tie.spec
     fresh-line-requires

@@ -1,10 +1,10 @@
--- `frames::ahead::fresh_line` meets its contract.
+-- `frames_step::ahead::fresh_line` meets its contract.
 use native.Mathlib.Omega.{arith}
-use Rattle.frames.proofs.Scans.{scan-not}
+use Rattle.readings_run.proofs.Scans.{scan-not}
 use borrow.Author.Tests.{eq-eqb, ne-eqb}
 use borrow.Author.Needs.{needs}
-use Rattle.frames.proofs.ahead.fresh_line.Statement.{statement}
-use Rattle.frames.proofs.ahead.fresh_line.Tie as tie
+use Rattle.frames_step.proofs.ahead.fresh_line.Statement.{statement}
+use Rattle.frames_step.proofs.ahead.fresh_line.Tie as tie
 
 enum-told : tie.Need-enum-told
 enum-told c = search needs

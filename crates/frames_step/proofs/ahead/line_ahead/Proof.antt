@@ -1,10 +1,10 @@
--- `frames::ahead::line_ahead` meets its contract.
+-- `frames_step::ahead::line_ahead` meets its contract.
 use borrow.Author.Needs.{needs}
 use Prim.Native.Nat.{_-_}
 use native.Mathlib.Omega.{arith}
-use Rattle.frames.proofs.Scans.{Scanned, scan-none, scan-not, scan-found, scan-more}
-use Rattle.frames.proofs.ahead.line_ahead.Statement.{statement}
-use Rattle.frames.proofs.ahead.line_ahead.Tie as tie
+use Rattle.readings_run.proofs.Scans.{Scanned, scan-none, scan-not, scan-found, scan-more}
+use Rattle.frames_step.proofs.ahead.line_ahead.Statement.{statement}
+use Rattle.frames_step.proofs.ahead.line_ahead.Tie as tie
 
 abbrev Inv-loop : tie.InvT-loop
 Inv-loop chunk i left n₀ n = Scanned chunk i n

@@ -1,0 +1,4 @@
+-- What the proofs of the functions cite.
+pub mod Scans
+pub mod Readings
+pub mod Runs

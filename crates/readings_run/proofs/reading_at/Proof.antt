@@ -1,0 +1,63 @@
+-- `readings_run::reading_at` meets its contract.
+use borrow.Author.Needs.{needs}
+use native.Mathlib.Omega.{arith}
+use Rattle.readings_run.proofs.Readings.{found}
+use Rattle.readings_run.proofs.reading_at.Statement.{statement}
+use Rattle.readings_run.proofs.reading_at.Tie as tie
+
+sub-left : tie.Need-sub-left
+sub-left c = search needs
+
+returns : tie.Need-returns
+returns c = search needs
+
+shared-slice-read-if2 : tie.Need-shared-slice-read-if2
+shared-slice-read-if2 c = search needs
+
+add-if3 : tie.Need-add-if3
+add-if3 c = search needs
+
+shared-slice-read-if3 : tie.Need-shared-slice-read-if3
+shared-slice-read-if3 c = search needs
+
+add-if4 : tie.Need-add-if4
+add-if4 c = search needs
+
+shared-slice-read-if4 : tie.Need-shared-slice-read-if4
+shared-slice-read-if4 c = search needs
+
+add-number : tie.Need-add-number
+add-number c = search needs
+
+number-requires : tie.Need-number-requires
+number-requires c κs = search needs
+
+returns-2 : tie.Need-returns-2
+returns-2 c = found _ (c .before .before .before .before .before .before .before .before .before .args .i) _ (c .number .ensures) (c .before .before .before .before .before .if2 .taken) (c .before .before .before .if3 .taken) (c .before .if4 .taken) (omega (arith, c .before .before .before .before .before .before .before .if1 .left))
+
+returns-3 : tie.Need-returns-3
+returns-3 c = search needs
+
+returns-4 : tie.Need-returns-4
+returns-4 c = search needs
+
+returns-5 : tie.Need-returns-5
+returns-5 c = search needs
+
+pub reading-at-spec : {M : Type 1} → statement M
+reading-at-spec =
+    tie.close
+    (tie.spec
+    sub-left
+    returns
+    shared-slice-read-if2
+    add-if3
+    shared-slice-read-if3
+    add-if4
+    shared-slice-read-if4
+    add-number
+    number-requires
+    returns-2
+    returns-3
+    returns-4
+    returns-5)

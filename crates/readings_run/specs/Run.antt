@@ -1,0 +1,75 @@
+-- Lines of readings one after the other: what is still printed behind them. Contracts of inner functions cite this.
+use Prim.Native.Nat.{ℕ, _+_, _≤_, _<_}
+use mathlib.Core.List.{List, [], _++_}
+use mathlib.Core.Bool.{Bool, true, false, _&&_}
+use mathlib.Core.Path.{_≡_}
+use lib.Dec.{ltb, eqb}
+use lib.ListN.{length, take, drop, getD}
+use Rattle.regs.specs.Program.{if_then_else_}
+use Rattle.slave_state.specs.declared.SlaveState.{SlaveState}
+use Rattle.frames_text.specs.Text.{number-at}
+use Rattle.frames_text.specs.declared.digits.Value.{Value}
+use Rattle.frames_text.specs.declared.digits.Value.the-variants.{Is, No}
+use Rattle.calls.specs.Calls.{MOST-READINGS}
+use Rattle.calls.specs.declared.Call.{Call}
+use Rattle.session.specs.Session.{complete}
+use Rattle.session.specs.Bounded.{Kept, within}
+use Rattle.session.specs.Enter.{opened}
+use Rattle.session.specs.declared.Wants.{Wants}
+use Rattle.session.specs.declared.Wants.the-variants.{Nothing}
+use Rattle.session.specs.declared.Counts.{Counts}
+use Rattle.session.specs.declared.Open.{Open}
+use Rattle.reader.specs.Rest.{whole, from-line, Sound, Went}
+use Rattle.reader.specs.declared.Part.{Part}
+use Rattle.reader.specs.declared.Part.the-variants.{Stopped, Text, Long}
+use Rattle.reader.specs.declared.State.{State}
+use Rattle.readings_run.specs.declared.Ran.{Ran}
+
+-- at i stand `20`, the 8 digits of w, and an LF
+pub record Written (chunk : List ℕ) (i w : ℕ) : Type 0 where
+  pub two : getD chunk i 0 ≡ 50
+  pub zero : getD chunk (i + 1) 0 ≡ 48
+  pub word : number-at chunk (i + 2) 8 ≡ Is w
+  pub lf : getD chunk (i + 10) 0 ≡ 10
+  pub inside : i + 10 < length chunk
+
+abbrev pub ReadingAt : List ℕ → ℕ → Value → Type 0
+ReadingAt chunk i No = Unit {0}
+ReadingAt chunk i (Is w) = Written chunk i w
+
+-- the first reading ends what the call may still want
+abbrev pub wants-after : ℕ → ℕ → Wants → Wants
+wants-after i used w = if ltb i used then Nothing else w
+
+-- from i on, readings up to `used`: whatever the call is and whatever follows, the rest prints what was to be printed
+pub record Run (chunk : List ℕ) (i first number : ℕ) (rs₀ : List ℕ) (used count line : ℕ) (rs : List ℕ) : Type 0 where
+  pub same : (s : SlaveState) (c : Call) (w : Wants) (k : Kept) → complete w ≡ true → (input : List ℕ)
+      → from-line number (within s c w k (take first rs₀)) [] (drop i chunk ++ input) ≡ from-line line (within s c (wants-after i used w) k (take count rs)) [] (drop used chunk ++ input)
+  pub onward : i ≤ used
+  pub inside : used ≤ length chunk
+  pub fits : first ≤ MOST-READINGS → count ≤ MOST-READINGS
+  pub size : length rs ≡ MOST-READINGS
+  pub none : used ≡ i → rs ≡ rs₀
+
+-- ---- the reader before and behind a run
+
+abbrev pub ready-by : Part → Open → Bool
+ready-by Stopped o = false
+ready-by (Text n) o = eqb n 0 && (o .busy && complete (o .wants))
+ready-by (Long odd) o = false
+
+abbrev pub ready-of : State → Bool
+ready-of s = ready-by (s .part) (s .call)
+
+abbrev pub with-readings : Counts → ℕ → Counts
+with-readings n count = record { large = n .large; ops = n .ops; bytes = n .bytes; reads = n .reads; readings = count }
+
+abbrev pub state-after : State → Ran → State
+state-after s r = record { line = r .line; part = Text 0; call = opened (s .call .call) Nothing (with-readings (s .call .counts) (r .count)); slave = s .slave }
+
+-- where nothing was read, nothing was stored
+pub record RanAs (s : State) (chunk : List ℕ) (i : ℕ) (rs₀ rs : List ℕ) (r : Ran) : Type 0 where
+  pub some : i < r .used → (t ks ls bs b l out : List ℕ) (at : ℕ) → Sound (whole s t ks ls bs rs₀ b l)
+      → Went (whole s t ks ls bs rs₀ b l) out at (drop i chunk) (whole (state-after s r) t ks ls bs rs b l) out at (drop (r .used) chunk)
+  pub inside : r .used ≤ length chunk
+  pub none : r .used ≤ i → rs ≡ rs₀
