@@ -25,7 +25,13 @@ fn push_begin(out: &mut [u8], at: usize, row: usize) -> usize
     requires { ⌜ (at + 12 ≤ length (now out)) × (row < 6) ⌝ }
     ensures { λ r. ⌜ Appended (now (out .entry)) at (cell words 12 row) 12 (now (out .exit)) r ⌝ }
 {
-    push_cell(out, at, b"read  ......write ......pending.....block reset.buffer......answer .....", 12, row)
+    push_cell(
+        out,
+        at,
+        b"read  ......write ......pending.....block reset.buffer......answer .....",
+        12,
+        row,
+    )
 }
 
 fn name_row(offset: u32) -> usize
@@ -44,14 +50,26 @@ fn push_name(out: &mut [u8], at: usize, offset: u32) -> usize
     ensures { λ r. ⌜ Appended (now (out .entry)) at (cell names 17 (name-row offset)) 17 (now (out .exit)) r ⌝ }
 {
     let row = name_row(offset);
-    push_cell(out, at, b"CON              TAR              SAR              ?                DATA_CMD         ?                ?                FS_SCL_HCNT      FS_SCL_LCNT      ?                ?                ?                INTR_MASK        RAW_INTR_STAT    RX_TL            TX_TL            CLR_INTR         ?                ?                ?                CLR_RD_REQ       CLR_TX_ABRT      CLR_RX_DONE      ?                CLR_STOP_DET     ?                CLR_GEN_CALL     ENABLE           STATUS           TXFLR            RXFLR            SDA_HOLD         TX_ABRT_SOURCE   ?                ?                ?                ?                ?                ACK_GENERAL_CALL ?                FS_SPKLEN        ?                CLR_RESTART_DET  ", 17, row)
+    push_cell(
+        out,
+        at,
+        b"CON              TAR              SAR              ?                DATA_CMD         ?                ?                FS_SCL_HCNT      FS_SCL_LCNT      ?                ?                ?                INTR_MASK        RAW_INTR_STAT    RX_TL            TX_TL            CLR_INTR         ?                ?                ?                CLR_RD_REQ       CLR_TX_ABRT      CLR_RX_DONE      ?                CLR_STOP_DET     ?                CLR_GEN_CALL     ENABLE           STATUS           TXFLR            RXFLR            SDA_HOLD         TX_ABRT_SOURCE   ?                ?                ?                ?                ?                ACK_GENERAL_CALL ?                FS_SPKLEN        ?                CLR_RESTART_DET  ",
+        17,
+        row,
+    )
 }
 
 fn push_interrupts(out: &mut [u8], at: usize, w: u32) -> usize
     requires { ⌜ at + 425 ≤ length (now out) ⌝ }
     ensures { λ r. ⌜ Appended (now (out .entry)) at (flags interrupts-flags 13 0 w) 425 (now (out .exit)) r ⌝ }
 {
-    push_flags(out, at, b"RX_UNDER................RX_OVER.................RX_FULL.................TX_OVER.................TX_EMPTY................RD_REQ..................TX_ABRT.................RX_DONE.................ACTIVITY................STOP_DET................START_DET...............GEN_CALL................RESTART_DET.............", 13, w)
+    push_flags(
+        out,
+        at,
+        b"RX_UNDER................RX_OVER.................RX_FULL.................TX_OVER.................TX_EMPTY................RD_REQ..................TX_ABRT.................RX_DONE.................ACTIVITY................STOP_DET................START_DET...............GEN_CALL................RESTART_DET.............",
+        13,
+        w,
+    )
 }
 
 // The fields of a register's value.
@@ -60,10 +78,22 @@ fn push_fields(out: &mut [u8], at: usize, offset: u32, w: u32) -> usize
     ensures { λ r. ⌜ Appended (now (out .entry)) at (fields offset w) 425 (now (out .exit)) r ⌝ }
 {
     if offset == 0x00 {
-        return push_flags(out, at, b"MASTER_MODE.............SPEED_STANDARD..........SPEED_FAST..............10BITADDR_SLAVE.........10BITADDR_MASTER........RESTART_EN..............SLAVE_DISABLE...........STOP_DET_IFADDRESSED....TX_EMPTY_CTRL...........RX_FIFO_FULL_HLD_CTRL...", 10, w);
+        return push_flags(
+            out,
+            at,
+            b"MASTER_MODE.............SPEED_STANDARD..........SPEED_FAST..............10BITADDR_SLAVE.........10BITADDR_MASTER........RESTART_EN..............SLAVE_DISABLE...........STOP_DET_IFADDRESSED....TX_EMPTY_CTRL...........RX_FIFO_FULL_HLD_CTRL...",
+            10,
+            w,
+        );
     }
     if offset == 0x10 {
-        return push_flags(out, at, b"read....................STOP....................RESTART.................FIRST_DATA_BYTE.........", 4, w / 256);
+        return push_flags(
+            out,
+            at,
+            b"read....................STOP....................RESTART.................FIRST_DATA_BYTE.........",
+            4,
+            w / 256,
+        );
     }
     if offset == 0x30 {
         return push_interrupts(out, at, w);
@@ -72,10 +102,22 @@ fn push_fields(out: &mut [u8], at: usize, offset: u32, w: u32) -> usize
         return push_interrupts(out, at, w);
     }
     if offset == 0x70 {
-        return push_flags(out, at, b"ACTIVITY................TFNF....................TFE.....................RFNE....................RFF.....................MST_ACTIVITY............SLV_ACTIVITY............", 7, w);
+        return push_flags(
+            out,
+            at,
+            b"ACTIVITY................TFNF....................TFE.....................RFNE....................RFF.....................MST_ACTIVITY............SLV_ACTIVITY............",
+            7,
+            w,
+        );
     }
     if offset == 0x80 {
-        return push_flags(out, at, b"7B_ADDR_NOACK...........10ADDR1_NOACK...........10ADDR2_NOACK...........TXDATA_NOACK............GCALL_NOACK.............GCALL_READ..............HS_ACKDET...............SBYTE_ACKDET............HS_NORSTRT..............SBYTE_NORSTRT...........10B_RD_NORSTRT..........MASTER_DIS..............ARB_LOST................SLVFLUSH_TXFIFO.........SLV_ARBLOST.............SLVRD_INTX..............USER_ABRT...............", 17, w);
+        return push_flags(
+            out,
+            at,
+            b"7B_ADDR_NOACK...........10ADDR1_NOACK...........10ADDR2_NOACK...........TXDATA_NOACK............GCALL_NOACK.............GCALL_READ..............HS_ACKDET...............SBYTE_ACKDET............HS_NORSTRT..............SBYTE_NORSTRT...........10B_RD_NORSTRT..........MASTER_DIS..............ARB_LOST................SLVFLUSH_TXFIFO.........SLV_ARBLOST.............SLVRD_INTX..............USER_ABRT...............",
+            17,
+            w,
+        );
     }
     at
 }
@@ -127,7 +169,13 @@ fn push_number(out: &mut [u8], at: usize, n: u32) -> usize
     ensures { λ r. ⌜ Appended (now (out .entry)) at (cell answers 40 n) 40 (now (out .exit)) r ⌝ }
 {
     if n < 22 {
-        return push_cell(out, at, b"accepted................................1 frequency above 1,000,000.............2 frequency 0...........................3 clock above 1,431,655,765.............4 clock too fast........................5 clock too slow........................6 address not 7 bits....................7 empty read............................8 empty write...........................9 no acknowledge........................10 arbitration lost.....................11 other abort..........................12 TX level above 16....................13 empty response.......................14 partial write........................15 partial general call.................16 slave address 0......................17 no place for the pending byte........18 out of readings......................19 log full.............................20 over the limits......................21 malformed frame at line..............", 40, n as usize);
+        return push_cell(
+            out,
+            at,
+            b"accepted................................1 frequency above 1,000,000.............2 frequency 0...........................3 clock above 1,431,655,765.............4 clock too fast........................5 clock too slow........................6 address not 7 bits....................7 empty read............................8 empty write...........................9 no acknowledge........................10 arbitration lost.....................11 other abort..........................12 TX level above 16....................13 empty response.......................14 partial write........................15 partial general call.................16 slave address 0......................17 no place for the pending byte........18 out of readings......................19 log full.............................20 over the limits......................21 malformed frame at line..............",
+            40,
+            n as usize,
+        );
     }
     at
 }

@@ -1,0 +1,61 @@
+-- `explain::take` meets its contract.
+use mathlib.Core.Path.{sym}
+use native.Mathlib.Omega.{arith}
+use lib.Seq.{length-take-le}
+use lib.ListN.{length-set}
+use borrow.Author.Needs.{needs}
+use Rattle.explain.proofs.take.Statement.{statement}
+use Rattle.explain.proofs.take.Tie as tie
+
+next-requires : tie.Need-next-requires
+next-requires c κs = search needs
+
+slice-reshare-prefix-say-line : tie.Need-slice-reshare-prefix-say-line
+slice-reshare-prefix-say-line c = search needs
+
+slice-aggregate-say-line : tie.Need-slice-aggregate-say-line
+slice-aggregate-say-line c = sym (length-take-le _ _ (c .before .before .before .before .before .pre))
+
+say-line-requires : tie.Need-say-line-requires
+say-line-requires c κs = search needs
+
+same-length : tie.Need-same-length
+same-length c = search needs
+
+same-length-2 : tie.Need-same-length-2
+same-length-2 c = search needs
+
+returns : tie.Need-returns
+returns c = search needs
+
+slice-write-line : tie.Need-slice-write-line
+slice-write-line c = search needs
+
+add-t16 : tie.Need-add-t16
+add-t16 c = search needs
+
+same-length-3 : tie.Need-same-length-3
+same-length-3 c = search needs
+
+returns-2 : tie.Need-returns-2
+returns-2 c = rw length-set (omega (arith, c .if2 .taken))
+
+returns-3 : tie.Need-returns-3
+returns-3 c = search needs
+
+pub take-spec : {M : Type 1} → statement M
+take-spec =
+    tie.close
+    (tie.spec
+    next-requires
+    slice-reshare-prefix-say-line
+    slice-aggregate-say-line
+    say-line-requires
+    same-length
+    same-length-2
+    returns
+    slice-write-line
+    add-t16
+    same-length-3
+    returns-2
+    returns-3)
