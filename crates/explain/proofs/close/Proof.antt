@@ -5,17 +5,23 @@ use borrow.Author.Needs.{needs}
 use Rattle.explain.proofs.close.Statement.{statement}
 use Rattle.explain.proofs.close.Tie as tie
 
-slice-aggregate-say-line : tie.Need-slice-aggregate-say-line
-slice-aggregate-say-line c = sym (length-take-le _ _ (c .before .before .before .before .before .pre))
+slice-aggregate-end-line : tie.Need-slice-aggregate-end-line
+slice-aggregate-end-line c = sym (length-take-le _ _ (c .before .before .before .before .before .before .pre))
 
 next-requires : tie.Need-next-requires
 next-requires c κs = search needs
 
-say-line-requires : tie.Need-say-line-requires
-say-line-requires c κs = search needs
+end-line-requires : tie.Need-end-line-requires
+end-line-requires c κs = search needs
 
 same-length : tie.Need-same-length
 same-length c = search needs
+
+same-length-2 : tie.Need-same-length-2
+same-length-2 c = search needs
+
+same-length-3 : tie.Need-same-length-3
+same-length-3 c = search needs
 
 returns : tie.Need-returns
 returns c = search needs
@@ -27,9 +33,11 @@ pub close-spec : {M : Type 1} → statement M
 close-spec =
     tie.close
     (tie.spec
-    slice-aggregate-say-line
+    slice-aggregate-end-line
     next-requires
-    say-line-requires
+    end-line-requires
     same-length
+    same-length-2
+    same-length-3
     returns
     returns-2)

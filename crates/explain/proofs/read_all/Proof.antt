@@ -8,13 +8,13 @@ use Rattle.explain.proofs.read_all.Statement.{statement}
 use Rattle.explain.proofs.read_all.Tie as tie
 
 abbrev Inv-loop : tie.InvT-loop
-Inv-loop chunk₀ line₀ out₀ place₀ turns₀ chunk line out place turns = (place .held ≤ length line) × (length chunk ≡ length chunk₀) × (length line ≡ length line₀) × (length out ≡ length out₀)
+Inv-loop chunk₀ line₀ log₀ places₀ out₀ place₀ turns₀ chunk line log places out place turns = (place .held ≤ length line) × (length chunk ≡ length chunk₀) × (length line ≡ length line₀) × (length log ≡ length log₀) × (length places ≡ length places₀) × (length out ≡ length out₀)
 
 abbrev μ-loop : tie.MeasureT-loop
-μ-loop chunk₀ line₀ out₀ place₀ turns₀ chunk line out place turns = turns
+μ-loop chunk₀ line₀ log₀ places₀ out₀ place₀ turns₀ chunk line log places out place turns = turns
 
 loop-holds : tie.Need-loop-holds Inv-loop μ-loop
-loop-holds c = (omega arith, refl, refl, refl)
+loop-holds c = (omega arith, refl, refl, refl, refl, refl)
 
 read-requires : tie.Need-read-requires Inv-loop μ-loop
 read-requires c κs = search needs
@@ -29,7 +29,7 @@ slice-aggregate-take-all : tie.Need-slice-aggregate-take-all Inv-loop μ-loop
 slice-aggregate-take-all c = search needs
 
 take-all-requires : tie.Need-take-all-requires Inv-loop μ-loop
-take-all-requires c κs = c .before .before .before .before .before .before .before .before .before .before .loop .inv .0
+take-all-requires c κs = c .before .before .before .before .before .before .before .before .before .before .before .before .loop .inv .0
 
 sub-turns : tie.Need-sub-turns Inv-loop μ-loop
 sub-turns c = search needs
@@ -38,13 +38,13 @@ loop-less : tie.Need-loop-less Inv-loop μ-loop
 loop-less c = search needs
 
 loop-again : tie.Need-loop-again Inv-loop μ-loop
-loop-again c = (c .before .before .before .before .before .take-all .ensures, c .before .before .before .before .before .before .before .before .before .before .before .before .before .read .kept .1 .0 ∙ c .before .before .before .before .before .before .before .before .before .before .before .before .before .before .before .before .loop .inv .1, c .before .before .before .before .before .take-all .kept .1 .1 .0 ∙ c .before .before .before .before .before .before .before .before .before .before .before .before .before .before .before .before .loop .inv .2, c .before .before .before .before .before .take-all .kept .1 .1 .1 .0 ∙ c .before .before .before .before .before .before .before .before .before .before .before .before .before .before .before .before .loop .inv .3)
+loop-again c = (c .before .before .before .before .before .before .before .before .before .take-all .ensures, c .before .before .before .before .before .before .before .before .before .before .before .before .before .before .before .before .before .before .before .read .kept .1 .0 ∙ c .before .before .before .before .before .before .before .before .before .before .before .before .before .before .before .before .before .before .before .before .before .before .loop .inv .1, c .before .before .before .before .before .before .before .before .before .take-all .kept .1 .1 .0 ∙ c .before .before .before .before .before .before .before .before .before .before .before .before .before .before .before .before .before .before .before .before .before .before .loop .inv .2, c .before .before .before .before .before .before .before .before .before .take-all .kept .1 .1 .1 .0 ∙ c .before .before .before .before .before .before .before .before .before .before .before .before .before .before .before .before .before .before .before .before .before .before .loop .inv .3, c .before .before .before .before .before .before .before .before .before .take-all .kept .1 .1 .1 .1 .0 ∙ c .before .before .before .before .before .before .before .before .before .before .before .before .before .before .before .before .before .before .before .before .before .before .loop .inv .4, c .before .before .before .before .before .before .before .before .before .take-all .kept .1 .1 .1 .1 .1 .0 ∙ c .before .before .before .before .before .before .before .before .before .before .before .before .before .before .before .before .before .before .before .before .before .before .loop .inv .5)
 
 loop-less-2 : tie.Need-loop-less-2 Inv-loop μ-loop
 loop-less-2 c = search needs
 
 loop-again-2 : tie.Need-loop-again-2 Inv-loop μ-loop
-loop-again-2 c = (c .before .before .before .before .before .take-all .ensures, c .before .before .before .before .before .before .before .before .before .before .before .before .before .read .kept .1 .0 ∙ c .before .before .before .before .before .before .before .before .before .before .before .before .before .before .before .before .loop .inv .1, c .before .before .before .before .before .take-all .kept .1 .1 .0 ∙ c .before .before .before .before .before .before .before .before .before .before .before .before .before .before .before .before .loop .inv .2, c .before .before .before .before .before .take-all .kept .1 .1 .1 .0 ∙ c .before .before .before .before .before .before .before .before .before .before .before .before .before .before .before .before .loop .inv .3)
+loop-again-2 c = (c .before .before .before .before .before .before .before .before .before .take-all .ensures, c .before .before .before .before .before .before .before .before .before .before .before .before .before .before .before .before .before .before .before .read .kept .1 .0 ∙ c .before .before .before .before .before .before .before .before .before .before .before .before .before .before .before .before .before .before .before .before .before .before .loop .inv .1, c .before .before .before .before .before .before .before .before .before .take-all .kept .1 .1 .0 ∙ c .before .before .before .before .before .before .before .before .before .before .before .before .before .before .before .before .before .before .before .before .before .before .loop .inv .2, c .before .before .before .before .before .before .before .before .before .take-all .kept .1 .1 .1 .0 ∙ c .before .before .before .before .before .before .before .before .before .before .before .before .before .before .before .before .before .before .before .before .before .before .loop .inv .3, c .before .before .before .before .before .before .before .before .before .take-all .kept .1 .1 .1 .1 .0 ∙ c .before .before .before .before .before .before .before .before .before .before .before .before .before .before .before .before .before .before .before .before .before .before .loop .inv .4, c .before .before .before .before .before .before .before .before .before .take-all .kept .1 .1 .1 .1 .1 .0 ∙ c .before .before .before .before .before .before .before .before .before .before .before .before .before .before .before .before .before .before .before .before .before .before .loop .inv .5)
 
 same-length : tie.Need-same-length Inv-loop μ-loop
 same-length c = c .before .loop .inv .1
@@ -54,6 +54,12 @@ same-length-2 c = c .before .loop .inv .2
 
 same-length-3 : tie.Need-same-length-3 Inv-loop μ-loop
 same-length-3 c = c .before .loop .inv .3
+
+same-length-4 : tie.Need-same-length-4 Inv-loop μ-loop
+same-length-4 c = c .before .loop .inv .4
+
+same-length-5 : tie.Need-same-length-5 Inv-loop μ-loop
+same-length-5 c = c .before .loop .inv .5
 
 returns : tie.Need-returns Inv-loop μ-loop
 returns c = c .before .loop .inv .0
@@ -78,4 +84,6 @@ read-all-spec =
     same-length
     same-length-2
     same-length-3
+    same-length-4
+    same-length-5
     returns)
