@@ -53,7 +53,15 @@ fn push_name(out: &mut [u8], at: usize, offset: u32) -> usize
     push_cell(
         out,
         at,
-        b"CON              TAR              SAR              ?                DATA_CMD         ?                ?                FS_SCL_HCNT      FS_SCL_LCNT      ?                ?                ?                INTR_MASK        RAW_INTR_STAT    RX_TL            TX_TL            CLR_INTR         ?                ?                ?                CLR_RD_REQ       CLR_TX_ABRT      CLR_RX_DONE      ?                CLR_STOP_DET     ?                CLR_GEN_CALL     ENABLE           STATUS           TXFLR            RXFLR            SDA_HOLD         TX_ABRT_SOURCE   ?                ?                ?                ?                ?                ACK_GENERAL_CALL ?                FS_SPKLEN        ?                CLR_RESTART_DET  ",
+        b"CON              TAR              SAR              ?                DATA_CMD         \
+          ?                ?                FS_SCL_HCNT      FS_SCL_LCNT      ?                \
+          ?                ?                INTR_MASK        RAW_INTR_STAT    RX_TL            \
+          TX_TL            CLR_INTR         ?                ?                ?                \
+          CLR_RD_REQ       CLR_TX_ABRT      CLR_RX_DONE      ?                CLR_STOP_DET     \
+          ?                CLR_GEN_CALL     ENABLE           STATUS           TXFLR            \
+          RXFLR            SDA_HOLD         TX_ABRT_SOURCE   ?                ?                \
+          ?                ?                ?                ACK_GENERAL_CALL ?                \
+          FS_SPKLEN        ?                CLR_RESTART_DET  ",
         17,
         row,
     )
@@ -66,7 +74,10 @@ fn push_interrupts(out: &mut [u8], at: usize, w: u32) -> usize
     push_flags(
         out,
         at,
-        b"RX_UNDER................RX_OVER.................RX_FULL.................TX_OVER.................TX_EMPTY................RD_REQ..................TX_ABRT.................RX_DONE.................ACTIVITY................STOP_DET................START_DET...............GEN_CALL................RESTART_DET.............",
+        b"RX_UNDER................RX_OVER.................RX_FULL.................TX_OVER.................\
+          TX_EMPTY................RD_REQ..................TX_ABRT.................RX_DONE.................\
+          ACTIVITY................STOP_DET................START_DET...............GEN_CALL................\
+          RESTART_DET.............",
         13,
         w,
     )
@@ -81,7 +92,9 @@ fn push_fields(out: &mut [u8], at: usize, offset: u32, w: u32) -> usize
         return push_flags(
             out,
             at,
-            b"MASTER_MODE.............SPEED_STANDARD..........SPEED_FAST..............10BITADDR_SLAVE.........10BITADDR_MASTER........RESTART_EN..............SLAVE_DISABLE...........STOP_DET_IFADDRESSED....TX_EMPTY_CTRL...........RX_FIFO_FULL_HLD_CTRL...",
+            b"MASTER_MODE.............SPEED_STANDARD..........SPEED_FAST..............10BITADDR_SLAVE.........\
+              10BITADDR_MASTER........RESTART_EN..............SLAVE_DISABLE...........STOP_DET_IFADDRESSED....\
+              TX_EMPTY_CTRL...........RX_FIFO_FULL_HLD_CTRL...",
             10,
             w,
         );
@@ -105,7 +118,8 @@ fn push_fields(out: &mut [u8], at: usize, offset: u32, w: u32) -> usize
         return push_flags(
             out,
             at,
-            b"ACTIVITY................TFNF....................TFE.....................RFNE....................RFF.....................MST_ACTIVITY............SLV_ACTIVITY............",
+            b"ACTIVITY................TFNF....................TFE.....................RFNE....................\
+              RFF.....................MST_ACTIVITY............SLV_ACTIVITY............",
             7,
             w,
         );
@@ -114,7 +128,11 @@ fn push_fields(out: &mut [u8], at: usize, offset: u32, w: u32) -> usize
         return push_flags(
             out,
             at,
-            b"7B_ADDR_NOACK...........10ADDR1_NOACK...........10ADDR2_NOACK...........TXDATA_NOACK............GCALL_NOACK.............GCALL_READ..............HS_ACKDET...............SBYTE_ACKDET............HS_NORSTRT..............SBYTE_NORSTRT...........10B_RD_NORSTRT..........MASTER_DIS..............ARB_LOST................SLVFLUSH_TXFIFO.........SLV_ARBLOST.............SLVRD_INTX..............USER_ABRT...............",
+            b"7B_ADDR_NOACK...........10ADDR1_NOACK...........10ADDR2_NOACK...........TXDATA_NOACK............\
+              GCALL_NOACK.............GCALL_READ..............HS_ACKDET...............SBYTE_ACKDET............\
+              HS_NORSTRT..............SBYTE_NORSTRT...........10B_RD_NORSTRT..........MASTER_DIS..............\
+              ARB_LOST................SLVFLUSH_TXFIFO.........SLV_ARBLOST.............SLVRD_INTX..............\
+              USER_ABRT...............",
             17,
             w,
         );
@@ -172,7 +190,17 @@ fn push_number(out: &mut [u8], at: usize, n: u32) -> usize
         return push_cell(
             out,
             at,
-            b"accepted................................1 frequency above 1,000,000.............2 frequency 0...........................3 clock above 1,431,655,765.............4 clock too fast........................5 clock too slow........................6 address not 7 bits....................7 empty read............................8 empty write...........................9 no acknowledge........................10 arbitration lost.....................11 other abort..........................12 TX level above 16....................13 empty response.......................14 partial write........................15 partial general call.................16 slave address 0......................17 no place for the pending byte........18 out of readings......................19 log full.............................20 over the limits......................21 malformed frame at line..............",
+            b"accepted................................1 frequency above 1,000,000.............\
+              2 frequency 0...........................3 clock above 1,431,655,765.............\
+              4 clock too fast........................5 clock too slow........................\
+              6 address not 7 bits....................7 empty read............................\
+              8 empty write...........................9 no acknowledge........................\
+              10 arbitration lost.....................11 other abort..........................\
+              12 TX level above 16....................13 empty response.......................\
+              14 partial write........................15 partial general call.................\
+              16 slave address 0......................17 no place for the pending byte........\
+              18 out of readings......................19 log full.............................\
+              20 over the limits......................21 malformed frame at line..............",
             40,
             n as usize,
         );
