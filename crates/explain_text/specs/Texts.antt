@@ -28,15 +28,17 @@ unfoldable pub flags : List ℕ → ℕ → ℕ → ℕ → List ℕ
 flags table zero row w = []
 flags table (suc n) row w = flag table row (eqb (w % 2) 1) ++ flags table n (row + 1) (w / 2)
 
--- the fields of a register's value: of CON, DATA_CMD, INTR_MASK and RAW_INTR_STAT, STATUS, and TX_ABRT_SOURCE
+-- the fields of a register's value: of STATUS and TX_ABRT_SOURCE
+unfoldable pub state-fields : ℕ → ℕ → List ℕ
+state-fields offset w = if eqb offset 0x70 then flags status-flags 7 0 w else (if eqb offset 0x80 then flags aborts-flags 17 0 w else [])
+
+-- and of CON, DATA_CMD, INTR_MASK and RAW_INTR_STAT
 unfoldable pub fields : ℕ → ℕ → List ℕ
 fields offset w =
     if eqb offset 0x00 then flags con-flags 10 0 w else
     (if eqb offset 0x10 then flags command-flags 4 0 (w / 256) else
     (if eqb offset 0x30 then flags interrupts-flags 13 0 w else
-    (if eqb offset 0x34 then flags interrupts-flags 13 0 w else
-    (if eqb offset 0x70 then flags status-flags 7 0 w else
-    (if eqb offset 0x80 then flags aborts-flags 17 0 w else [])))))
+    (if eqb offset 0x34 then flags interrupts-flags 13 0 w else state-fields offset w)))
 
 -- the row of a register's name; row 3 is a `?`
 abbrev pub name-row : ℕ → ℕ

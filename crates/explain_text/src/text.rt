@@ -13,7 +13,7 @@ ghost use Prim.Native.Nat.{_+_, _*_, _<_, _≤_};
 ghost use lib.ListN.{length, take};
 ghost use Rattle.frames_text.specs.Appended.{Appended};
 ghost use Rattle.explain_text.specs.Tables.{names, interrupts-flags, words, answers};
-ghost use Rattle.explain_text.specs.Texts.{cell, flags, fields, name-row, access-text, mark-text, buffer-text, detail-text, answer-text, frame-text, explained};
+ghost use Rattle.explain_text.specs.Texts.{cell, flags, state-fields, fields, name-row, access-text, mark-text, buffer-text, detail-text, answer-text, frame-text, explained};
 
 // The longest line, a buffer of 4,096 bytes, and the room that the text of every line has in.
 pub const LONGEST: usize = 8194;
@@ -83,6 +83,37 @@ fn push_interrupts(out: &mut [u8], at: usize, w: u32) -> usize
     )
 }
 
+// The fields of STATUS and of TX_ABRT_SOURCE.
+fn push_states(out: &mut [u8], at: usize, offset: u32, w: u32) -> usize
+    requires { ⌜ at + 425 ≤ length (now out) ⌝ }
+    ensures { λ r. ⌜ Appended (now (out .entry)) at (state-fields offset w) 425 (now (out .exit)) r ⌝ }
+{
+    if offset == 0x70 {
+        return push_flags(
+            out,
+            at,
+            b"ACTIVITY................TFNF....................TFE.....................RFNE....................\
+              RFF.....................MST_ACTIVITY............SLV_ACTIVITY............",
+            7,
+            w,
+        );
+    }
+    if offset == 0x80 {
+        return push_flags(
+            out,
+            at,
+            b"7B_ADDR_NOACK...........10ADDR1_NOACK...........10ADDR2_NOACK...........TXDATA_NOACK............\
+              GCALL_NOACK.............GCALL_READ..............HS_ACKDET...............SBYTE_ACKDET............\
+              HS_NORSTRT..............SBYTE_NORSTRT...........10B_RD_NORSTRT..........MASTER_DIS..............\
+              ARB_LOST................SLVFLUSH_TXFIFO.........SLV_ARBLOST.............SLVRD_INTX..............\
+              USER_ABRT...............",
+            17,
+            w,
+        );
+    }
+    at
+}
+
 // The fields of a register's value.
 fn push_fields(out: &mut [u8], at: usize, offset: u32, w: u32) -> usize
     requires { ⌜ at + 425 ≤ length (now out) ⌝ }
@@ -114,30 +145,7 @@ fn push_fields(out: &mut [u8], at: usize, offset: u32, w: u32) -> usize
     if offset == 0x34 {
         return push_interrupts(out, at, w);
     }
-    if offset == 0x70 {
-        return push_flags(
-            out,
-            at,
-            b"ACTIVITY................TFNF....................TFE.....................RFNE....................\
-              RFF.....................MST_ACTIVITY............SLV_ACTIVITY............",
-            7,
-            w,
-        );
-    }
-    if offset == 0x80 {
-        return push_flags(
-            out,
-            at,
-            b"7B_ADDR_NOACK...........10ADDR1_NOACK...........10ADDR2_NOACK...........TXDATA_NOACK............\
-              GCALL_NOACK.............GCALL_READ..............HS_ACKDET...............SBYTE_ACKDET............\
-              HS_NORSTRT..............SBYTE_NORSTRT...........10B_RD_NORSTRT..........MASTER_DIS..............\
-              ARB_LOST................SLVFLUSH_TXFIFO.........SLV_ARBLOST.............SLVRD_INTX..............\
-              USER_ABRT...............",
-            17,
-            w,
-        );
-    }
-    at
+    push_states(out, at, offset, w)
 }
 
 fn push_access(out: &mut [u8], begin: usize, offset: u32, w: u32) -> usize
