@@ -1,6 +1,5 @@
 // Rows of tables, flags, and pairs of digits. Each function puts its text at `at` of a lent buffer and returns where the text ends.
 use frames_text::print::push;
-ghost use mathlib.Core.Path.{_≡_};
 ghost use Prim.Native.Nat.{_+_, _*_, _≤_};
 ghost use lib.ListN.{length, drop};
 ghost use Rattle.frames_text.specs.Appended.{Appended};
