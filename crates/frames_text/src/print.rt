@@ -17,7 +17,7 @@ fn wide(b: u8) -> u32
     b as u32
 }
 
-fn push(out: &mut [u8], at: usize, c: u8) -> usize
+pub fn push(out: &mut [u8], at: usize, c: u8) -> usize
     requires { ⌜ at < length (now out) ⌝ }
     ensures { λ r. ⌜ Appended (now (out .entry)) at (c ∷ []) 1 (now (out .exit)) r ⌝ }
 {
@@ -25,7 +25,7 @@ fn push(out: &mut [u8], at: usize, c: u8) -> usize
     at + 1
 }
 
-fn push2(out: &mut [u8], at: usize, n: u32) -> usize
+pub fn push2(out: &mut [u8], at: usize, n: u32) -> usize
     requires { ⌜ at + 2 ≤ length (now out) ⌝ }
     ensures { λ r. ⌜ Appended (now (out .entry)) at (hex2 n) 2 (now (out .exit)) r ⌝ }
 {
@@ -41,7 +41,7 @@ fn push4(out: &mut [u8], at: usize, n: u32) -> usize
     push2(out, high, n % 256)
 }
 
-fn push8(out: &mut [u8], at: usize, n: u32) -> usize
+pub fn push8(out: &mut [u8], at: usize, n: u32) -> usize
     requires { ⌜ at + 8 ≤ length (now out) ⌝ }
     ensures { λ r. ⌜ Appended (now (out .entry)) at (hex8 n) 8 (now (out .exit)) r ⌝ }
 {

@@ -1,0 +1,69 @@
+-- `explain::take` meets its contract.
+use mathlib.Core.Path.{sym}
+use native.Mathlib.Omega.{arith}
+use lib.Seq.{length-take-le}
+use lib.ListN.{length-set}
+use borrow.Author.Needs.{needs}
+use Rattle.explain.proofs.take.Statement.{statement}
+use Rattle.explain.proofs.take.Tie as tie
+
+next-requires : tie.Need-next-requires
+next-requires c κs = search needs
+
+slice-reshare-prefix-end-line : tie.Need-slice-reshare-prefix-end-line
+slice-reshare-prefix-end-line c = search needs
+
+slice-aggregate-end-line : tie.Need-slice-aggregate-end-line
+slice-aggregate-end-line c = sym (length-take-le _ _ (c .before .before .before .before .before .before .before .pre))
+
+end-line-requires : tie.Need-end-line-requires
+end-line-requires c κs = search needs
+
+same-length : tie.Need-same-length
+same-length c = search needs
+
+same-length-2 : tie.Need-same-length-2
+same-length-2 c = search needs
+
+same-length-3 : tie.Need-same-length-3
+same-length-3 c = search needs
+
+same-length-4 : tie.Need-same-length-4
+same-length-4 c = search needs
+
+returns : tie.Need-returns
+returns c = search needs
+
+slice-write-line : tie.Need-slice-write-line
+slice-write-line c = search needs
+
+add-t21 : tie.Need-add-t21
+add-t21 c = search needs
+
+same-length-5 : tie.Need-same-length-5
+same-length-5 c = search needs
+
+returns-2 : tie.Need-returns-2
+returns-2 c = rw length-set (omega (arith, c .if2 .taken))
+
+returns-3 : tie.Need-returns-3
+returns-3 c = search needs
+
+pub take-spec : {M : Type 1} → statement M
+take-spec =
+    tie.close
+    (tie.spec
+    next-requires
+    slice-reshare-prefix-end-line
+    slice-aggregate-end-line
+    end-line-requires
+    same-length
+    same-length-2
+    same-length-3
+    same-length-4
+    returns
+    slice-write-line
+    add-t21
+    same-length-5
+    returns-2
+    returns-3)

@@ -1,0 +1,2 @@
+-- The bus line of a transfer.
+pub mod Line

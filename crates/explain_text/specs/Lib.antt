@@ -1,0 +1,4 @@
+-- What is printed for a line of the replay's answers.
+pub mod Tables
+pub mod Frames
+pub mod Texts

@@ -1,0 +1,83 @@
+-- The text of a frame.
+use Prim.Native.Nat.{ℕ, zero, suc, _+_, _*_, _/_, _%_}
+use mathlib.Core.Bool.{Bool}
+use mathlib.Core.List.{List, [], _∷_, _++_}
+use lib.Dec.{eqb, ltb}
+use lib.ListN.{length, take, drop}
+use Rattle.regs.specs.Program.{if_then_else_}
+use Rattle.frames_text.specs.Text.{LF, hex2, hex8}
+use Rattle.explain_text.specs.declared.frame.Frame.{Frame}
+use Rattle.explain_text.specs.declared.frame.Frame.the-variants.{Read, Write, Pending, BlockReset, Buffer, Answer, Unknown}
+use Rattle.explain_text.specs.Frames.{frame-of}
+use Rattle.explain_text.specs.Tables.{names, con-flags, command-flags, interrupts-flags, status-flags, aborts-flags, words, answers}
+
+-- what stands before the first dot (46)
+unfoldable pub until-dot : List ℕ → List ℕ
+until-dot [] = []
+until-dot (c ∷ cs) = if eqb c 46 then [] else c ∷ until-dot cs
+
+-- the text of a row
+unfoldable pub cell : List ℕ → ℕ → ℕ → List ℕ
+cell table width row = until-dot (take width (drop (row * width) table))
+
+abbrev pub flag : List ℕ → ℕ → Bool → List ℕ
+flag table row set = if set then 32 ∷ cell table 24 row else []
+
+-- the names of the flags that are set, of n flags from a row on: bit 0 of w belongs to the first, and a space stands before each
+unfoldable pub flags : List ℕ → ℕ → ℕ → ℕ → List ℕ
+flags table zero row w = []
+flags table (suc n) row w = flag table row (eqb (w % 2) 1) ++ flags table n (row + 1) (w / 2)
+
+-- the fields of a register's value: of STATUS and TX_ABRT_SOURCE
+unfoldable pub state-fields : ℕ → ℕ → List ℕ
+state-fields offset w = if eqb offset 0x70 then flags status-flags 7 0 w else (if eqb offset 0x80 then flags aborts-flags 17 0 w else [])
+
+-- and of CON, DATA_CMD, INTR_MASK and RAW_INTR_STAT
+unfoldable pub fields : ℕ → ℕ → List ℕ
+fields offset w =
+    if eqb offset 0x00 then flags con-flags 10 0 w else
+    (if eqb offset 0x10 then flags command-flags 4 0 (w / 256) else
+    (if eqb offset 0x30 then flags interrupts-flags 13 0 w else
+    (if eqb offset 0x34 then flags interrupts-flags 13 0 w else state-fields offset w)))
+
+-- the row of a register's name; row 3 is a `?`
+abbrev pub name-row : ℕ → ℕ
+name-row offset = if eqb (offset % 4) 0 then (if ltb offset 172 then offset / 4 else 3) else 3
+
+-- an access: which, the register's name and offset, the value and its fields
+unfoldable pub access-text : ℕ → ℕ → ℕ → List ℕ
+access-text word offset w =
+    cell words 12 word ++ (cell names 17 (name-row offset) ++ (hex2 offset ++ ((32 ∷ []) ++ (hex8 w ++ (fields offset w ++ (LF ∷ []))))))
+
+unfoldable pub mark-text : ℕ → List ℕ
+mark-text word = cell words 12 word ++ (LF ∷ [])
+
+-- digits by pairs, a space before each
+unfoldable pub spaced : List ℕ → List ℕ
+spaced [] = []
+spaced (c ∷ []) = []
+spaced (c ∷ d ∷ cs) = 32 ∷ c ∷ d ∷ spaced cs
+
+unfoldable pub buffer-text : List ℕ → List ℕ
+buffer-text line = cell words 12 4 ++ (spaced (drop 2 line) ++ (LF ∷ []))
+
+-- a detail that is not 0, behind a colon
+unfoldable pub detail-text : ℕ → List ℕ
+detail-text d = if eqb d 0 then [] else (58 ∷ []) ++ ((32 ∷ []) ++ hex8 d)
+
+unfoldable pub answer-text : ℕ → ℕ → List ℕ
+answer-text n d = cell words 12 5 ++ (cell answers 40 n ++ (detail-text d ++ (LF ∷ [])))
+
+-- the text of a frame; a buffer's bytes are read from its line. What is no frame has no text.
+unfoldable pub frame-text : List ℕ → Frame → List ℕ
+frame-text line (Read offset w) = access-text 0 offset w
+frame-text line (Write offset w) = access-text 1 offset w
+frame-text line Pending = mark-text 2
+frame-text line BlockReset = mark-text 3
+frame-text line Buffer = buffer-text line
+frame-text line (Answer n d) = answer-text n d
+frame-text line Unknown = []
+
+-- the text of a line of at most 8,194 bytes, a buffer of 4,096, in a buffer with room for the longest text
+unfoldable pub explained : List ℕ → ℕ → List ℕ
+explained line room = if ltb 8194 (length line) then [] else (if ltb room 16900 then [] else frame-text line (frame-of line))
