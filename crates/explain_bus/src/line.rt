@@ -3,7 +3,6 @@ use explain_text::rows::push_cell;
 use frames_text::print::push;
 use frames_text::print::push2;
 ghost use mathlib.Core.Path.{_≡_};
-ghost use mathlib.Core.List.{[], _∷_};
 ghost use Prim.Native.Nat.{_+_, _*_, _<_, _≤_};
 ghost use lib.ListN.{length, take};
 ghost use Rattle.frames_text.specs.Appended.{Appended};

@@ -3,7 +3,6 @@ use frames_text::digits::Value;
 use frames_text::digits::is_pairs;
 use frames_text::digits::number;
 ghost use mathlib.Core.Path.{_≡_};
-ghost use Prim.Native.Nat.{_≤_};
 ghost use lib.ListN.{length};
 ghost use Rattle.frames_text.specs.Text.{number-at};
 ghost use Rattle.explain_text.specs.Frames.{mark-frame, word-frame, word-of, frame-of-kind, frame-of};

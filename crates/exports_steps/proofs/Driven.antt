@@ -8,7 +8,7 @@ use Rattle.transfer.specs.Machine.{next-at, next-of, store-at, store-of, step-o
 use Rattle.transfer.specs.declared.Transfer.{Transfer}
 use Rattle.transfer_numbers.specs.Numbers.{place-row, answer-row, place-of, point-at, numbers-of, transfer-at}
 use Rattle.transfer_numbers.proofs.Kept.{Live, Ended, point-kept, kept}
-use Rattle.exports_steps.specs.Steps.{ended, access-of, next-access-of, advance-of-numbers}
+use Rattle.exports_steps.specs.Steps.{access-of, next-access-of, advance-of-numbers}
 
 module _ (bytes : List ℕ) (t : Transfer) where
   access-live : Live (t .point) → next-access-of bytes (numbers-of t) ≡ access-of (next-of bytes t)

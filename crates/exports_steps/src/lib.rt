@@ -9,7 +9,6 @@ use transfer::Point;
 use transfer::Transfer;
 use transfer_numbers::Machine;
 ghost use mathlib.Core.Path.{_≡_};
-ghost use lib.ListN.{length};
 ghost use Rattle.regs.specs.Machine.{stored-in};
 ghost use Rattle.transfer.specs.Machine.{store-of};
 ghost use Rattle.transfer_numbers.specs.Numbers.{numbers-of, transfer-at};

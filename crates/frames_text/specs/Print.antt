@@ -2,7 +2,7 @@
 use Prim.Native.Nat.{ℕ}
 use mathlib.Core.List.{List, [], _∷_, _++_}
 use lib.Dec.{eqb}
-use Rattle.regs.specs.Program.{if_then_else_, PENDING, Outcome}
+use Rattle.regs.specs.Program.{if_then_else_, PENDING}
 use Rattle.regs.specs.Answers.{number, detail}
 use Rattle.regs.specs.declared.access.Entry.{Entry}
 use Rattle.regs.specs.declared.access.Entry.the-variants.{Read, Write, Marked}

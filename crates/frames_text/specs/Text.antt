@@ -1,7 +1,6 @@
 -- Lines, digits and numbers: how the bytes of the input are read, and how numbers are written.
 use Prim.Native.Nat.{ℕ, zero, suc, _+_, _*_, _-_, _/_, _%_, _^_}
 use mathlib.Core.List.{List, [], _∷_, _++_}
-use mathlib.Core.Bool.{Bool}
 use lib.Dec.{eqb, ltb}
 use lib.ListN.{getD}
 use Rattle.regs.specs.Program.{if_then_else_}

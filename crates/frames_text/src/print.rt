@@ -7,7 +7,7 @@ ghost use mathlib.Core.List.{[], _∷_};
 ghost use Prim.Native.Nat.{_+_, _*_, _<_, _≤_};
 ghost use lib.ListN.{length, take};
 ghost use Rattle.regs.specs.Log.{decode};
-ghost use Rattle.frames_text.specs.Text.{LF, hex2, hex4, hex8};
+ghost use Rattle.frames_text.specs.Text.{hex2, hex4, hex8};
 ghost use Rattle.frames_text.specs.Print.{plain-frame, word-frame, entry-text, log-text, bytes-text, buffer-text, answer-text, reply-text};
 ghost use Rattle.frames_text.specs.Appended.{Appended};
 

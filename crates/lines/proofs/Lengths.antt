@@ -1,7 +1,7 @@
 -- Numbers past the end of a line, and the lengths of frames.
 use Prim.Native.Nat.{ℕ, _+_, _-_, _<_, _≤_}
 use native.Mathlib.Omega.{arith}
-use mathlib.Core.List.{List, [], _∷_}
+use mathlib.Core.List.{List}
 use mathlib.Core.Bool.{Bool, true, false}
 use mathlib.Core.Path.{_≡_, refl, ap, _∙_}
 use lib.Dec.{eqb, ltb}
@@ -10,7 +10,6 @@ use lib.Seq.{take-all}
 use borrow.Author.Tests.{ne-eqb, ltb-true, ltb-false}
 use Rattle.regs.specs.Program.{if_then_else_}
 use Rattle.frames_text.specs.Text.{digit-of, and-digit, number-at}
-use Rattle.frames_text.specs.Appended.{NumberAs}
 use Rattle.frames_text.specs.declared.digits.Value.{Value}
 use Rattle.frames_text.specs.declared.digits.Value.the-variants.{Is, No}
 use Rattle.lines.specs.Frame.{Frame, bad, sized, slave-of, of-kind, plain-of, LONGEST, fill-head, slave-head, head-by, head-of, width}

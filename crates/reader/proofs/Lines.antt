@@ -7,8 +7,8 @@ use mathlib.Core.Path.{_≡_, refl, sym, ap, _∙_}
 use lib.Dec.{eqb}
 use lib.ListN.{length}
 use Rattle.frames_text.specs.Text.{lines-after}
-use Rattle.lines.specs.Frame.{Frame, bad, frame-of}
-use Rattle.session.specs.Session.{Next, going, malformed, refusal, onward, line-after, printed-from}
+use Rattle.lines.specs.Frame.{bad, frame-of}
+use Rattle.session.specs.Session.{Next, malformed, refusal, onward, line-after, printed-from}
 use Rattle.session.specs.Bounded.{Held, idle, within, next-held, holds-call}
 use Rattle.reader.specs.Rest.{from-line}
 

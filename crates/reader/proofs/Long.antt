@@ -1,17 +1,17 @@
 -- Lines that are longer than what is kept of them: only whether a digit waits matters.
-use Prim.Native.Nat.{ℕ, zero, suc, _+_, _%_, _/_, _<_, _≤_}
+use Prim.Native.Nat.{ℕ, zero, suc, _+_, _%_, _<_, _≤_}
 use native.Mathlib.Omega.{arith}
 use mathlib.Core.List.{List, [], _∷_, _++_, append-assoc}
 use mathlib.Core.Bool.{Bool, true, false, _&&_}
 use mathlib.Core.Path.{_≡_, refl, sym, ap, _∙_}
 use lib.Dec.{eqb, ltb}
-use lib.ListN.{length, take, drop, getD, length-append, length-drop}
+use lib.ListN.{length, drop, getD, length-append, length-drop}
 use lib.Seq.{take-append-seam, getD-take, drop-append-le}
 use borrow.Author.Tests.{ne-eqb, eq-eqb, eqb-true, eqb-false}
 use Rattle.regs.specs.Program.{if_then_else_}
 use Rattle.frames_text.specs.Text.{digit-of, number-at, these, none, bytes-of}
-use Rattle.frames_text.specs.Pairs.{all-digits, whole-pairs, values}
-use Rattle.frames_text.proofs.Pairs.{digits-joined, length-values, written, unwritten}
+use Rattle.frames_text.specs.Pairs.{all-digits, values}
+use Rattle.frames_text.proofs.Pairs.{false-true, digits-joined, length-values, written, unwritten}
 use Rattle.lines.specs.Frame.{bad, head-of, width, bytes-frame, frame-of}
 use Rattle.lines.proofs.Lengths.{long-bad}
 use Rattle.lines.specs.declared.Line.{Line}
@@ -21,7 +21,7 @@ use Rattle.lines.specs.declared.Head.the-variants.{Plain, Bytes}
 use Rattle.session.specs.Session.{refusal}
 use Rattle.session.specs.Bounded.{Held, next-held}
 use Rattle.session.specs.Enter.{LONGEST-KEPT}
-use Rattle.session.proofs.Bound.{false-true, wide-alike}
+use Rattle.session.proofs.Bound.{wide-alike}
 use Rattle.reader.specs.Rest.{long-line, digits-more, from-line}
 use Rattle.reader.proofs.Lines.{alike-begun, doomed-begun}
 

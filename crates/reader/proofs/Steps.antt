@@ -1,12 +1,12 @@
 -- Each line and each byte leads from what was to be printed to what is still to be printed.
-use Prim.Native.Nat.{ℕ, _+_, _-_, _%_, _<_, _≤_}
+use Prim.Native.Nat.{ℕ, _+_, _-_, _<_, _≤_}
 use native.Mathlib.Omega.{arith}
 use native.Mathlib.Numerals.{add-one}
 use native.Mathlib.Nat.{min-le-left}
 use mathlib.Core.List.{List, [], _∷_, _++_, append-assoc, append-nil}
 use mathlib.Core.Bool.{Bool, true, false, not, _&&_}
 use mathlib.Core.Path.{_≡_, refl, sym, ap, _∙_}
-use lib.Dec.{ltb, eqb}
+use lib.Dec.{ltb}
 use lib.ListN.{length, take, drop, set, length-append, length-set, length-take}
 use lib.Seq.{length-take-le, take-suc-set, take-all, set-out}
 use borrow.Author.Tests.{ltb-true, ltb-false, ne-eqb}
@@ -14,19 +14,16 @@ use Rattle.regs.specs.Program.{if_then_else_}
 use Rattle.frames_text.specs.Text.{lines-after, digit-of, these}
 use Rattle.frames_text.specs.Pairs.{all-digits, values}
 use Rattle.frames_text.specs.Appended.{Appended}
-use Rattle.frames_text.proofs.Pairs.{both-of, digits-joined}
+use Rattle.frames_text.proofs.Pairs.{false-true, both-of}
 use Rattle.calls.specs.Runs.{MOST-TEXT, LOG-WORDS}
 use Rattle.lines.specs.Frame.{frame-of, head-of, width, bytes-frame}
 use Rattle.lines.specs.declared.Head.{Head}
 use Rattle.lines.specs.declared.Head.the-variants.{Plain, Bytes}
-use Rattle.lines.specs.declared.Line.{Line}
-use Rattle.slave_state.specs.declared.SlaveState.{SlaveState}
 use Rattle.session.specs.Session.{Next, going, malformed, refusal, line-after, onward, printed-from}
 use Rattle.session.specs.Bounded.{Held, next-held, holds-call}
-use Rattle.session.specs.Enter.{Arrays, arrays, session-of, Lent, Small, EnteredAs, LONGEST-KEPT}
+use Rattle.session.specs.Enter.{Arrays, session-of, Lent, EnteredAs, LONGEST-KEPT}
 use Rattle.session.specs.declared.Entered.{Entered}
 use Rattle.session.specs.declared.Entered.the-variants.{Going, Malformed}
-use Rattle.session.proofs.Bound.{false-true}
 use Rattle.session.proofs.Enters.{enters-wide, refused, closed-small}
 use Rattle.reader.specs.Rest.{Whole, rest, from-line, digits-more, long-line, Sound, Went, EndedAs, TurnedTo, KeptBy, KeptAs, long-entered, LongEndedAs, stopped-at, with-part, begun-of, Ahead}
 use Rattle.reader.specs.declared.Part.{Part}

@@ -1,2 +1,2 @@
--- What the replay reads and prints.
+-- What is still printed from a state of the reader on.
 pub mod Rest

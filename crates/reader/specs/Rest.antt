@@ -6,18 +6,16 @@ use mathlib.Core.Path.{_≡_}
 use lib.Dec.{ltb}
 use lib.ListN.{length, take, drop}
 use Rattle.regs.specs.Program.{if_then_else_}
-use Rattle.slave_state.specs.declared.SlaveState.{SlaveState}
 use Rattle.frames_text.specs.Text.{lines-after, digit-of}
 use Rattle.frames_text.specs.Pairs.{all-digits}
 use Rattle.frames_text.specs.Appended.{Appended}
-use Rattle.calls.specs.Runs.{LOG-WORDS, MOST-TEXT}
+use Rattle.calls.specs.Runs.{LOG-WORDS}
 use Rattle.lines.specs.Frame.{head-of, width}
 use Rattle.lines.specs.declared.Head.{Head}
 use Rattle.lines.specs.declared.Head.the-variants.{Plain, Bytes}
 use Rattle.session.specs.Session.{refusal, line-after, printed-from, fresh}
 use Rattle.session.specs.Bounded.{Held, next-held, holds-call}
 use Rattle.session.specs.Enter.{Arrays, arrays, session-of, Small, Lent, LONGEST-KEPT, no-call, over-of, taken-by, bytes-entered}
-use Rattle.session.specs.declared.Open.{Open}
 use Rattle.session.specs.declared.Entered.{Entered}
 use Rattle.session.specs.declared.Entered.the-variants.{Going, Malformed}
 use Rattle.reader.specs.declared.Part.{Part}

@@ -2,25 +2,25 @@
 use Prim.Native.Nat.{ℕ, _+_, _<_, _≤_}
 use native.Mathlib.Omega.{arith}
 use native.Mathlib.Numerals.{add-one}
-use mathlib.Core.List.{List, [], _∷_, _++_}
-use mathlib.Core.Bool.{Bool, true, false, _&&_}
+use mathlib.Core.List.{List, [], _++_}
+use mathlib.Core.Bool.{Bool, true, false}
 use mathlib.Core.Path.{_≡_, refl, sym, ap, _∙_}
 use lib.Dec.{ltb, eqb}
 use lib.ListN.{length, take, drop, set, length-set}
 use lib.Seq.{take-suc-set, length-take-le}
-use borrow.Author.Tests.{ltb-true, lt-ltb, le-ltb, eqb-true}
+use borrow.Author.Tests.{lt-ltb, le-ltb, eqb-true}
 use Rattle.regs.specs.Program.{if_then_else_}
 use Rattle.slave_state.specs.declared.SlaveState.{SlaveState}
 use Rattle.frames_text.proofs.Pairs.{both-of}
 use Rattle.calls.specs.Calls.{MOST-READINGS}
 use Rattle.calls.specs.declared.Call.{Call}
 use Rattle.session.specs.Session.{complete, line-after, printed-from}
-use Rattle.session.specs.Bounded.{Kept, Held, within, next-held, holds-call}
+use Rattle.session.specs.Bounded.{Kept, Held, within}
 use Rattle.session.specs.Enter.{Arrays, arrays, kept-of, session-of}
 use Rattle.session.specs.declared.Wants.{Wants}
 use Rattle.session.specs.declared.Wants.the-variants.{Nothing}
 use Rattle.session.specs.declared.Open.{Open}
-use Rattle.session.proofs.Bound.{false-true}
+use Rattle.frames_text.proofs.Pairs.{false-true}
 use Rattle.reader.specs.Rest.{whole, rest, rest-of, from-line, Sound, Went}
 use Rattle.reader.specs.declared.Part.{Part}
 use Rattle.reader.specs.declared.Part.the-variants.{Stopped, Text, Long}

@@ -10,13 +10,14 @@ use borrow.Author.Tests.{ltb-true, lt-ltb}
 use Rattle.regs.specs.Program.{if_then_else_}
 use Rattle.master.specs.Operations.{Operation, writes, reads, READ, WRITE}
 use Rattle.slave_state.specs.declared.SlaveState.{SlaveState}
+use Rattle.frames_text.proofs.Pairs.{false-true}
 use Rattle.calls.specs.Calls.{MOST-READINGS, Listed, listed, listing, over, call-text, slave-after}
 use Rattle.calls.specs.declared.Call.{Call}
 use Rattle.frames_text.specs.Text.{lines, these}
 use Rattle.lines.specs.Frame.{Frame, opens, write, read, reading, run, bad, bytes-frame, frame-of}
 use Rattle.lines.specs.declared.Line.{Line}
 use Rattle.lines.specs.declared.Line.the-variants as Line
-use Rattle.session.specs.Session.{Next, going, malformed, Session, wants-of, read-taken, write-taken, complete, next, is-open, onward, line-after, printed-from, printed, fresh}
+use Rattle.session.specs.Session.{Next, going, malformed, Session, read-taken, write-taken, complete, next, is-open, onward, line-after, printed-from, printed, fresh}
 use Rattle.session.specs.Session as S
 use Rattle.session.specs.Bounded.{Kept, kept, large, bounded, with-operation, add, Held, idle, within, operation, kept-text, kept-slave, next-held, holds-call}
 use Rattle.session.specs.declared.Wants.{Wants}
@@ -36,9 +37,6 @@ listing-more (writes cs ∷ os) (writes bs) = rw (listing-more os (writes bs)) (
 listing-more (writes cs ∷ os) (reads n) = rw (listing-more os (reads n))
 listing-more (reads m ∷ os) (writes bs) = rw (listing-more os (writes bs))
 listing-more (reads m ∷ os) (reads n) = rw (listing-more os (reads n)) (same-listed refl refl refl (omega arith))
-
-pub false-true : false ≡ true → ⊥
-false-true z = let y : _≡_ {A = ℕ} 0 1 = ap (λ (t : Bool). if t then 1 else 0) z in omega arith
 
 -- what is beyond the limits stays beyond them
 or-true : (a b c : Bool) {a′ b′ c′ : Bool} → (a ≡ true → a′ ≡ true) → (b ≡ true → b′ ≡ true) → (c ≡ true → c′ ≡ true) → a || (b || c) ≡ true → a′ || (b′ || c′) ≡ true

@@ -1,10 +1,10 @@
 -- What each frame leads to, from the session that the open call and the lent slices are.
-use Prim.Native.Nat.{ℕ, _+_, _/_, _<_, _≤_}
+use Prim.Native.Nat.{ℕ, _+_, _/_, _<_}
 use native.Mathlib.Omega.{arith}
 use native.Mathlib.Numerals.{add-one}
 use mathlib.Core.Bool.{Bool, true, false}
-use mathlib.Core.List.{List, [], _∷_, _++_, append-nil}
-use mathlib.Core.Path.{_≡_, refl, sym, ap, _∙_}
+use mathlib.Core.List.{List, [], _∷_}
+use mathlib.Core.Path.{_≡_, refl, sym, _∙_}
 use lib.Dec.{ltb}
 use lib.ListN.{length, take, set, length-set}
 use lib.Seq.{take-suc-set, length-take-le}
@@ -14,19 +14,18 @@ use Rattle.master.specs.Operations.{Operation, writes, reads}
 use Rattle.slave_state.specs.declared.SlaveState.{SlaveState}
 use Rattle.frames_text.specs.Text.{these, none, bytes-of}
 use Rattle.frames_text.specs.Pairs.{whole-pairs, values, PutAt}
-use Rattle.frames_text.proofs.Pairs.{length-values, written, unwritten}
-use Rattle.frames_text.specs.Appended.{Appended}
+use Rattle.frames_text.proofs.Pairs.{false-true, length-values, written, unwritten}
 use Rattle.frames_text.proofs.Appends.{nothing}
-use Rattle.calls.specs.Calls.{MOST-READINGS, listed, listing}
+use Rattle.calls.specs.Calls.{MOST-READINGS, listing}
 use Rattle.calls.specs.Runs.{MOST-TEXT}
 use Rattle.calls.specs.declared.Call.{Call}
 use Rattle.calls.specs.declared.Call.the-variants.{Respond, RespondAndFill}
 use Rattle.calls.specs.declared.Done.{Done}
-use Rattle.lines.specs.Frame.{Frame, opens, write, read, reading, run, bad, bytes-frame}
+use Rattle.lines.specs.Frame.{opens, read, reading, run, bad, bytes-frame}
 use Rattle.lines.specs.declared.Line.{Line}
 use Rattle.lines.specs.declared.Line.the-variants as Line
-use Rattle.session.specs.Session.{Next, going, malformed, wants-of, read-taken, write-taken, complete}
-use Rattle.session.specs.Bounded.{Kept, kept, large, bounded, add, Held, idle, within, operation, next-held}
+use Rattle.session.specs.Session.{going, malformed, wants-of, read-taken, write-taken, complete}
+use Rattle.session.specs.Bounded.{bounded, add, Held, within, operation, next-held}
 use Rattle.session.specs.Enter.{Arrays, arrays, kept-of, session-of, no-counts, no-call, Within, Small, Lent, EnteredAs, CalledAs, opened, over-of, added-to, call-entered, took-entered, read-entered, taken-as, taken-by, bytes-entered, one-reading, reading-entered}
 use Rattle.session.specs.declared.Wants.{Wants}
 use Rattle.session.specs.declared.Wants.the-variants.{Nothing}
@@ -47,10 +46,7 @@ silent {a} {out} {at} o s h e small l = record { same = rw e; text = nothing out
 
 -- a call that is open is small if its counts are
 busy : (c : Call) (w : Wants) (n : Counts) → Within n → Small (opened c w n)
-busy c w n h = record { counts = h; none = λ (e : true ≡ false). absurd (differ e) }
-  where
-    differ : true ≡ false → ⊥
-    differ z = let y : _≡_ {A = ℕ} 1 0 = ap (λ (t : Bool). if t then 1 else 0) z in omega arith
+busy c w n h = record { counts = h; none = λ (e : true ≡ false). absurd (false-true (sym e)) }
 
 no-counts-within : Within no-counts
 no-counts-within = record { ops = omega arith; bytes = omega arith; reads = omega arith; readings = omega arith }

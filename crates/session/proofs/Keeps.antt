@@ -4,19 +4,20 @@ use native.Mathlib.Omega.{arith}
 use native.Mathlib.Numerals.{add-one}
 use native.Mathlib.Nat.{add-zero}
 use mathlib.Core.Bool.{Bool, true, false, _||_}
-use mathlib.Core.List.{List, [], _∷_, _++_, append-nil}
-use mathlib.Core.Path.{_≡_, refl, sym, ap, _∙_}
+use mathlib.Core.List.{List, [], _∷_, _++_}
+use mathlib.Core.Path.{_≡_, refl, sym, _∙_}
 use lib.Dec.{ltb}
-use lib.ListN.{length, take, drop, set, length-append, length-drop, length-set}
-use lib.Seq.{take-suc-set, take-add, length-take-le}
+use lib.ListN.{length, take, set, length-append, length-set}
+use lib.Seq.{take-suc-set, length-take-le}
 use borrow.Author.Tests.{ltb-false}
 use Rattle.regs.specs.Program.{if_then_else_}
 use Rattle.master.specs.Operations.{writes, reads}
-use Rattle.calls.specs.Calls.{MOST-READINGS, listed, over}
-use Rattle.session.specs.Bounded.{Kept, kept, large, bounded, with-operation, add}
+use Rattle.calls.specs.Calls.{listed, over}
+use Rattle.session.specs.Bounded.{large, add}
 use Rattle.session.specs.Enter.{Arrays, arrays, kept-of, Within, Lent, over-of, too-many, added-to}
 use Rattle.session.specs.declared.Counts.{Counts}
-use Rattle.session.proofs.Bound.{false-true, add-wide}
+use Rattle.session.proofs.Bound.{add-wide}
+use Rattle.frames_text.proofs.Pairs.{false-true}
 
 -- none of three tests
 none-of : (a b c : Bool) → a || (b || c) ≡ false → (a ≡ false) × (b ≡ false) × (c ≡ false)

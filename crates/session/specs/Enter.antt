@@ -4,7 +4,7 @@ use mathlib.Core.Bool.{Bool, true, false, _||_}
 use mathlib.Core.List.{List, []}
 use mathlib.Core.Path.{_≡_}
 use lib.Dec.{ltb}
-use lib.ListN.{length, take, set}
+use lib.ListN.{length, take}
 use Rattle.regs.specs.Program.{if_then_else_}
 use Rattle.slave_state.specs.declared.SlaveState.{SlaveState}
 use Rattle.frames_text.specs.Appended.{Appended}

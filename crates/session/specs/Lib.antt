@@ -1,4 +1,4 @@
--- Lines as frames, frames as calls: what the replay is to print.
+-- Frames in order: what the replay is to print.
 pub mod Session
 pub mod Bounded
 pub mod Enter

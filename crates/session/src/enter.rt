@@ -15,8 +15,8 @@ use frames_text::digits::put;
 use lines::Line;
 use slave_state::SlaveState;
 ghost use mathlib.Core.Path.{_≡_};
-ghost use Prim.Native.Nat.{_+_, _≤_};
-ghost use lib.ListN.{length, set};
+ghost use Prim.Native.Nat.{_≤_};
+ghost use lib.ListN.{set};
 ghost use Rattle.session.specs.Enter.{Small, LONGEST-KEPT, no-call, opened, over-of, added-to, call-entered, took-entered, read-entered, taken-by, bytes-entered, reading-entered};
 
 fn open(call: Call, wants: Wants, counts: Counts) -> Open

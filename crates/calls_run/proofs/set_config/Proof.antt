@@ -1,6 +1,5 @@
 -- `calls_run::set_config` meets its contract.
 use mathlib.Core.Bool.{false}
-use mathlib.Core.List.{[]}
 use Rattle.clock.specs.SetConfig.{set-config}
 use Rattle.calls.proofs.Legal.{set-config-legal}
 use Rattle.calls.proofs.Prints.{room, prints-none}

@@ -2,7 +2,6 @@
 use Prim.Native.Nat.{_-_, _≤_}
 use lib.ListN.{length}
 use mathlib.Core.Path.{_≡_, refl, _∙_}
-use native.Mathlib.Omega.{arith}
 use borrow.Author.Needs.{needs}
 use Rattle.explain.proofs.take_all.Statement.{statement}
 use Rattle.explain.proofs.take_all.Tie as tie

@@ -1,5 +1,5 @@
 -- `frames::end_input` meets its contract.
-use mathlib.Core.Path.{_≡_, sym, _∙_}
+use mathlib.Core.Path.{sym, _∙_}
 use Rattle.frames_text.proofs.Appends.{nothing}
 use mathlib.Core.Path.{sym, _∙_}
 use borrow.Author.Needs.{needs}

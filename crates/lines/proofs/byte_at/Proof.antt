@@ -1,7 +1,6 @@
 -- `lines::byte_at` meets its contract.
 use native.Mathlib.Omega.{arith}
 use Rattle.lines.proofs.Lengths.{none-at}
-use borrow.Author.Tests.{le-ltb, lt-ltb}
 use borrow.Author.Needs.{needs}
 use Rattle.lines.proofs.byte_at.Statement.{statement}
 use Rattle.lines.proofs.byte_at.Tie as tie

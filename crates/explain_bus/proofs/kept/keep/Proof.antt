@@ -1,5 +1,4 @@
 -- `explain_bus::kept::keep` meets its contract.
-use native.Mathlib.Omega.{arith}
 use borrow.Author.Tests.{lt-ltb, le-ltb}
 use Rattle.frames_text.proofs.Appends.{nothing}
 use Rattle.explain_bus.specs.Line.{kept}

@@ -1,5 +1,4 @@
 -- `explain_bus::kept::put_write` meets its contract.
-use native.Mathlib.Omega.{arith}
 use borrow.Author.Tests.{eq-eqb, ne-eqb}
 use Rattle.frames_text.proofs.Appends.{nothing}
 use borrow.Author.Needs.{needs}

@@ -1,6 +1,5 @@
 -- `explain_bus::line::letter` meets its contract.
 use borrow.Author.Tests.{eq-eqb, ne-eqb}
-use borrow.Author.Needs.{needs}
 use Rattle.explain_bus.proofs.line.letter.Statement.{statement}
 use Rattle.explain_bus.proofs.line.letter.Tie as tie
 

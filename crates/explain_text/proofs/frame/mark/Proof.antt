@@ -1,6 +1,5 @@
 -- `explain_text::frame::mark` meets its contract.
 use borrow.Author.Tests.{eq-eqb, ne-eqb}
-use borrow.Author.Needs.{needs}
 use Rattle.explain_text.proofs.frame.mark.Statement.{statement}
 use Rattle.explain_text.proofs.frame.mark.Tie as tie
 

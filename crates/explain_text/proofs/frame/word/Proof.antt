@@ -1,6 +1,5 @@
 -- `explain_text::frame::word` meets its contract.
 use borrow.Author.Tests.{eq-eqb, le-ltb, lt-ltb, ne-eqb}
-use borrow.Author.Needs.{needs}
 use Rattle.explain_text.proofs.frame.word.Statement.{statement}
 use Rattle.explain_text.proofs.frame.word.Tie as tie
 

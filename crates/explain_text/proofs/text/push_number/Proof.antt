@@ -1,5 +1,4 @@
 -- `explain_text::text::push_number` meets its contract.
-use borrow.Author.Tests.{lt-ltb, le-ltb}
 use native.Mathlib.Omega.{arith}
 use Rattle.frames_text.proofs.Appends.{nothing}
 use Rattle.explain_text.specs.Tables.{answers}

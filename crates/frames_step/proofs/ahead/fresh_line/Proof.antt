@@ -1,7 +1,6 @@
 -- `frames_step::ahead::fresh_line` meets its contract.
 use native.Mathlib.Omega.{arith}
 use Rattle.readings_run.proofs.Scans.{scan-not}
-use borrow.Author.Tests.{eq-eqb, ne-eqb}
 use borrow.Author.Needs.{needs}
 use Rattle.frames_step.proofs.ahead.fresh_line.Statement.{statement}
 use Rattle.frames_step.proofs.ahead.fresh_line.Tie as tie

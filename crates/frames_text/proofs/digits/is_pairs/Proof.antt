@@ -1,6 +1,5 @@
 -- `frames_text::digits::is_pairs` meets its contract.
 use borrow.Author.Tests.{eq-eqb, ne-eqb}
-use native.Mathlib.Omega.{arith}
 use borrow.Author.Needs.{needs}
 use Rattle.frames_text.proofs.digits.is_pairs.Statement.{statement}
 use Rattle.frames_text.proofs.digits.is_pairs.Tie as tie

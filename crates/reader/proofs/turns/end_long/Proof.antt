@@ -1,5 +1,5 @@
 -- `reader::turns::end_long` meets its contract.
-use mathlib.Core.Path.{_≡_, sym, _∙_}
+use mathlib.Core.Path.{sym, _∙_}
 use borrow.Author.Needs.{needs}
 use Rattle.reader.proofs.turns.end_long.Statement.{statement}
 use Rattle.reader.proofs.turns.end_long.Tie as tie

@@ -1,5 +1,5 @@
 -- `reader::turns::is_long` meets its contract.
-use mathlib.Core.Path.{_≡_, sym, _∙_}
+use mathlib.Core.Path.{sym, _∙_}
 use native.Mathlib.Omega.{arith}
 use Rattle.lines.proofs.Lengths.{head-fits, behind}
 use borrow.Author.Needs.{needs}

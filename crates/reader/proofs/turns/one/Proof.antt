@@ -2,7 +2,6 @@
 use native.Mathlib.Omega.{arith}
 use Rattle.session.specs.Enter.{arrays}
 use Rattle.reader.proofs.Steps.{stays, text-byte, long-byte}
-use borrow.Author.Tests.{eq-eqb, ne-eqb}
 use borrow.Author.Needs.{needs}
 use Rattle.reader.proofs.turns.one.Statement.{statement}
 use Rattle.reader.proofs.turns.one.Tie as tie

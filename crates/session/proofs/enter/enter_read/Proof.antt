@@ -1,5 +1,4 @@
 -- `session::enter::enter_read` meets its contract.
-use mathlib.Core.Path.{sym, _∙_}
 use borrow.Author.Needs.{needs}
 use Rattle.session.proofs.enter.enter_read.Statement.{statement}
 use Rattle.session.proofs.enter.enter_read.Tie as tie

@@ -2,7 +2,6 @@
 use mathlib.Core.Path.{sym}
 use lib.Seq.{set-out}
 use native.Mathlib.Omega.{arith}
-use borrow.Author.Tests.{le-ltb}
 use borrow.Author.Needs.{needs}
 use Rattle.session.proofs.store.put16.Statement.{statement}
 use Rattle.session.proofs.store.put16.Tie as tie

@@ -2,7 +2,6 @@
 use mathlib.Core.Path.{sym}
 use lib.Seq.{set-out}
 use native.Mathlib.Omega.{arith}
-use borrow.Author.Tests.{le-ltb}
 use borrow.Author.Needs.{needs}
 use Rattle.session.proofs.store.put32.Statement.{statement}
 use Rattle.session.proofs.store.put32.Tie as tie
