@@ -1,5 +1,6 @@
 -- Laws that hold for every driver.
 pub mod Bits
+pub mod Tests
 pub mod Table
 pub mod Unroll
 pub mod Refine

@@ -15,7 +15,7 @@ ghost use Rattle.regs.specs.Fields.{stop-det, rd-req, gen-call, restart-det};
 ghost use Rattle.slave_listen.specs.Machine.{next-listen, settled, stays, advance-listen};
 
 // STOP_DET, RESTART_DET, GEN_CALL, RD_REQ and RX_FULL in INTR_MASK.
-const MASK: u32 = 1 << 9 | 1 << 12 | 1 << 11 | 1 << 5 | 1 << 2;
+pub const MASK: u32 = 1 << 9 | 1 << 12 | 1 << 11 | 1 << 5 | 1 << 2;
 
 // The access that is next, with the status word and the length so far where they are still wanted.
 pub enum ListenPoint {

@@ -13,7 +13,7 @@ ghost use Rattle.slave_state.specs.I2cSlave.{abort-reason};
 ghost use Rattle.slave_respond.specs.Machine.{count-of, byte-at, answer-of, next-respond, response, chunk-end, more-bytes, fed, after-reason, after-byte, advance-respond};
 
 // RX_DONE, TX_EMPTY and TX_ABRT in INTR_MASK.
-const MASK: u32 = 1 << 7 | 1 << 4 | 1 << 6;
+pub const MASK: u32 = 1 << 7 | 1 << 4 | 1 << 6;
 
 // The bytes that a poll sends at most: a FIFO of them.
 const CHUNK: u16 = 16;
@@ -58,7 +58,7 @@ fn count(job: Job, length: u16) -> u16
     }
 }
 
-fn wide(b: u8) -> u32
+pub fn wide(b: u8) -> u32
     ensures { λ r. ⌜ r ≡ b ⌝ }
 {
     b as u32
@@ -126,7 +126,7 @@ fn on(job: Job, point: RespondPoint) -> Response
 }
 
 // Where the chunk that starts at `at` ends.
-fn chunk_end(at: u16, count: u16) -> u16
+pub fn chunk_end(at: u16, count: u16) -> u16
     ensures { λ r. ⌜ r ≡ chunk-end at count ⌝ }
 {
     if at < count {

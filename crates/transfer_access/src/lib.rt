@@ -1,5 +1,5 @@
 // The access that is next in a transfer, and what it puts into the lent buffer.
-mod words; // for the points of each Rust function
+pub mod words; // for the points of each Rust function
 
 use regs::access::Next;
 use regs::access::Store;

@@ -45,7 +45,7 @@ fn word_of_write(byte: u8, i: u16, len: u16, send_stop: bool) -> u32
 }
 
 // An async read's word, with so many still to queue.
-fn word_of_queue(queue: u16, len: u16, send_stop: bool, restart: bool) -> u32
+pub fn word_of_queue(queue: u16, len: u16, send_stop: bool, restart: bool) -> u32
     ensures { λ r. ⌜ r ≡ queue-word queue len «send_stop» restart ⌝ }
 {
     let left = less(queue);

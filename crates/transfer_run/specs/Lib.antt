@@ -1,2 +1,2 @@
--- One step of a transfer over recorded readings. Only contracts of inner functions cite this: what the calls leave is said by the crate `master`.
+-- Steps of a transfer over recorded readings. Only contracts of inner functions cite this: what the calls leave is said by the crate `master`.
 pub mod Steps

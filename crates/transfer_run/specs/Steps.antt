@@ -1,25 +1,18 @@
--- One step of a transfer: the access that is next is performed, its byte is stored, and the transfer moves on.
-use Prim.Native.Nat.{ℕ, _/_}
+-- Steps of a transfer: its run comes to a later state, or ends.
+use Prim.Native.Nat.{ℕ, _/_, _-_, _<_}
 use mathlib.Core.List.{List}
 use mathlib.Core.Path.{_≡_}
 use lib.ListN.{length}
-use Rattle.regs.specs.Machine.{performed, log-after, stored-in}
-use Rattle.regs.specs.declared.access.Performed.{Performed}
-use Rattle.regs.specs.declared.access.Performed.the-variants as P
-use Rattle.transfer.specs.Machine.{next-of, store-of, advance-of}
+use Rattle.regs.specs.Machine.{final, ran}
+use Rattle.transfer.specs.Machine.{machine}
 use Rattle.transfer.specs.declared.Transfer.{Transfer}
+use Rattle.runs.specs.Reaches.{Reaches}
 use Rattle.transfer_run.specs.declared.Stepped.{Stepped}
 use Rattle.transfer_run.specs.declared.Stepped.the-variants.{On, Stopped}
 
-abbrev pub stepped : List ℕ → List ℕ → Transfer → Performed → Stepped
-stepped kinds lengths t (P.Did v u) = On (advance-of kinds lengths t v) u
-stepped kinds lengths t (P.Stopped r) = Stopped r
-
-abbrev pub buffer-after : Transfer → Performed → List ℕ → List ℕ
-buffer-after t (P.Did v u) b = stored-in b (store-of t v)
-buffer-after t (P.Stopped r) b = b
-
-pub record Steps (kinds lengths bytes readings log buffer log′ buffer′ : List ℕ) (t : Transfer) (used entries : ℕ) (r : Stepped) : Type 0 where
-  pub result : r ≡ stepped kinds lengths t (performed readings used entries (length log / 2) (next-of bytes t))
-  pub log-left : log′ ≡ log-after (performed readings used entries (length log / 2) (next-of bytes t)) log entries (next-of bytes t)
-  pub buffer-left : buffer′ ≡ buffer-after t (performed readings used entries (length log / 2) (next-of bytes t)) buffer
+-- log′ and buffer′ are what is left of log and buffer
+abbrev pub Steps : List ℕ → List ℕ → List ℕ → List ℕ → List ℕ → List ℕ → List ℕ → List ℕ → Transfer → ℕ → ℕ → Stepped → Type 0
+Steps kinds lengths bytes readings log buffer log′ buffer′ t used entries (On t′ used′ entries′) =
+    Reaches (machine kinds lengths bytes) readings t entries used log buffer t′ entries′ used′ log′ buffer′ × (entries < entries′)
+Steps kinds lengths bytes readings log buffer log′ buffer′ t used entries (Stopped y) =
+    final (y .reply) (y .entries) (y .used) log′ buffer′ tt ≡ ran (machine kinds lengths bytes) readings (length log / 2 - entries) t entries used log buffer

@@ -2,23 +2,23 @@
 
 use regs::access::Performed;
 use regs::access::Ran;
-use regs::answers::Reply;
 use transfer::FillPoint;
 use transfer::Point;
 use transfer::Transfer;
 ghost use mathlib.Core.Path.{_≡_};
-ghost use Prim.Native.Nat.{_/_};
+ghost use Prim.Native.Nat.{_/_, _≤_};
 ghost use lib.ListN.{length};
 ghost use Rattle.regs.specs.Machine.{final, ran};
 ghost use Rattle.transfer.specs.Machine.{machine};
 ghost use Rattle.transfer_run.specs.Steps.{Steps};
 
-// A step was made, or the run stops.
+// Accesses were made, so many readings are used and so many entries in the log; or the run ends.
 pub enum Stepped {
-    On(Transfer, usize),
-    Stopped(Reply),
+    On(Transfer, usize, usize),
+    Stopped(Ran),
 }
 
+// The burst that begins here, if one does, and one access.
 fn step(
     t: Transfer,
     kinds: &[u8],
@@ -30,14 +30,24 @@ fn step(
     entries: usize,
     buffer: &mut [u8],
 ) -> Stepped
+    requires { ⌜ entries ≤ length (now log) / 2 ⌝ }
     ensures { λ r. ⌜ Steps (now (kinds .entry)) (now (lengths .entry)) (now (bytes .entry)) (now (readings .entry)) (now (log .entry)) (now (buffer .entry)) (now (log .exit)) (now (buffer .exit)) t used entries r ⌝ }
 {
-    let n = transfer_access::next_access(t, bytes);
-    match regs::access::perform(n, readings, used, log, entries) {
-        Performed::Stopped(r) => Stepped::Stopped(r),
-        Performed::Did(v, u) => {
-            regs::access::keep(buffer, transfer_access::store(t, v));
-            Stepped::On(transfer_steps::advance(t, v, kinds, lengths), u)
+    let a = transfer_ahead::burst_from(t, bytes, readings, used, log, entries, buffer);
+    let u = a.used;
+    let k = a.entries;
+    let p = a.point;
+    let s = transfer_steps::at_point(t, p);
+    let n = transfer_access::next_access(s, bytes);
+    match regs::access::perform(n, readings, u, log, k) {
+        Performed::Stopped(r) => Stepped::Stopped(Ran {
+            reply: r,
+            entries: k,
+            used: u,
+        }),
+        Performed::Did(v, w) => {
+            regs::access::keep(buffer, transfer_access::store(s, v));
+            Stepped::On(transfer_steps::advance(s, v, kinds, lengths), w, k + 1)
         }
     }
 }
@@ -113,17 +123,11 @@ pub fn drive(
                     entries,
                     buffer,
                 ) {
-                    Stepped::Stopped(r) => {
-                        return Ran {
-                            reply: r,
-                            entries,
-                            used,
-                        };
-                    }
-                    Stepped::On(next, u) => {
+                    Stepped::Stopped(r) => return r,
+                    Stepped::On(next, u, k) => {
                         t = next;
                         used = u;
-                        entries += 1;
+                        entries = k;
                     }
                 }
                 if has_ended(t) {

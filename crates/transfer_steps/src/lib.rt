@@ -109,7 +109,7 @@ fn open(t: Transfer, n: usize, kind: u8, len: u16, last: bool) -> Transfer
     }
 }
 
-fn at_point(t: Transfer, p: Point) -> Transfer
+pub fn at_point(t: Transfer, p: Point) -> Transfer
     ensures { λ r. ⌜ r ≡ with-point t p ⌝ }
 {
     let mode = t.mode;

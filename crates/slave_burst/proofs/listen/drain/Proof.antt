@@ -1,0 +1,151 @@
+-- `slave_burst::listen::drain` meets its contract.
+use Rattle.slave_burst.proofs.listen.drain.Statement.{statement}
+use Rattle.slave_burst.proofs.listen.drain.Tie as tie
+use native.Mathlib.Omega.{arith}
+use mathlib.Core.Path.{sym, _∙_}
+use Rattle.runs.proofs.Turns.{no-turn}
+use Rattle.slave_burst.proofs.Draining.{Draining, drain-none, drain-next}
+use borrow.Author.Needs.{needs}
+
+abbrev Inv-loop : tie.InvT-loop
+Inv-loop from places readings used log₀ entries buffer₀ n₀ i₀ u₀ k₀ log buffer n i u k = Draining from places readings used log₀ entries buffer₀ log buffer n i u k
+
+abbrev μ-loop : tie.MeasureT-loop
+μ-loop from places readings used log₀ entries buffer₀ n₀ i₀ u₀ k₀ log buffer n i u k = n
+
+sub-least : tie.Need-sub-least Inv-loop μ-loop
+sub-least c = omega (arith, c .before .before .before .pre .0)
+
+sub-least-2 : tie.Need-sub-least-2 Inv-loop μ-loop
+sub-least-2 c = omega (arith, c .before .before .before .pre .0)
+
+sub-least-3 : tie.Need-sub-least-3 Inv-loop μ-loop
+sub-least-3 c = omega (arith, c .before .before .before .pre .3)
+
+sub-least-4 : tie.Need-sub-least-4 Inv-loop μ-loop
+sub-least-4 c = omega (arith, c .before .before .before .pre .2)
+
+least-requires : tie.Need-least-requires Inv-loop μ-loop
+least-requires c κs = search needs
+
+least-requires-2 : tie.Need-least-requires-2 Inv-loop μ-loop
+least-requires-2 c κs = search needs
+
+loop-holds : tie.Need-loop-holds Inv-loop μ-loop
+loop-holds c = 
+    let m = c .least2 .ensures in
+    let w = c .before .least .ensures in
+    (
+      no-turn (drain-none (c .before .before .before .before .before .pre .3) (search needs)) (omega (arith, m .0, c .before .before .before .before .before .pre .0)) (omega (arith, c .before .before .before .before .before .pre .1)) (omega (arith, m .1, w .0, c .before .before .before .before .before .pre .3)) (omega (arith, m .1, w .1, c .before .before .before .before .before .pre .2)) (search needs) (search needs) (search needs) (search needs),
+      omega arith,
+    )
+
+mul-status : tie.Need-mul-status Inv-loop μ-loop
+mul-status c = search needs
+
+shared-slice-read-status : tie.Need-shared-slice-read-status Inv-loop μ-loop
+shared-slice-read-status c = omega (arith, c .before .before .loop .inv .0 .left, c .before .loop-test .taken)
+
+add-word : tie.Need-add-word Inv-loop μ-loop
+add-word c = omega (arith, c .before .before .loop .inv .0 .left, c .before .loop-test .taken)
+
+mul-word : tie.Need-mul-word Inv-loop μ-loop
+mul-word c = search needs
+
+shared-slice-read-word : tie.Need-shared-slice-read-word Inv-loop μ-loop
+shared-slice-read-word c = omega (arith, c .before .before .before .loop .inv .0 .left, c .before .before .loop-test .taken)
+
+is-straight-requires : tie.Need-is-straight-requires Inv-loop μ-loop
+is-straight-requires c κs = search needs
+
+put-read-requires : tie.Need-put-read-requires Inv-loop μ-loop
+put-read-requires c κs = omega (arith, c .before .before .before .before .before .before .loop .inv .0 .room, c .before .before .before .before .before .before .loop .inv .0 .long, c .before .before .before .before .before .loop-test .taken)
+
+add-put-read : tie.Need-add-put-read Inv-loop μ-loop
+add-put-read c = omega (arith, c .before .before .before .before .before .before .before .before .before .before .loop .inv .0 .room, c .before .before .before .before .before .before .before .before .before .before .loop .inv .0 .fits .1, c .before .before .before .before .before .before .before .before .before .loop-test .taken)
+
+put-read-requires-2 : tie.Need-put-read-requires-2 Inv-loop μ-loop
+put-read-requires-2 c κs = omega (arith, c .before .before .before .before .before .before .before .before .before .before .loop .inv .0 .room, c .before .before .before .before .before .before .before .before .before .before .loop .inv .0 .long, c .before .before .before .before .before .before .before .before .before .loop-test .taken, c .before .before .before .put-read .kept .0)
+
+byte-of-requires : tie.Need-byte-of-requires Inv-loop μ-loop
+byte-of-requires c κs = search needs
+
+cast-buffer : tie.Need-cast-buffer Inv-loop μ-loop
+cast-buffer c = search needs
+
+slice-write-buffer : tie.Need-slice-write-buffer Inv-loop μ-loop
+slice-write-buffer c = omega (arith, c .before .before .before .before .before .before .before .before .before .before .before .before .before .before .loop .inv .0 .held, c .before .before .before .before .before .before .before .before .before .before .before .before .before .before .loop .inv .0 .short, c .before .before .before .before .before .before .before .before .before .before .before .before .before .before .loop .inv .0 .wide, c .before .before .before .before .before .before .before .before .before .before .before .before .before .loop-test .taken)
+
+add-i : tie.Need-add-i Inv-loop μ-loop
+add-i c = omega (arith, c .before .before .before .before .before .before .before .before .before .before .before .before .before .before .loop .inv .0 .short, c .before .before .before .before .before .before .before .before .before .before .before .before .before .before .loop .inv .0 .fits .3, c .before .before .before .before .before .before .before .before .before .before .before .before .before .loop-test .taken)
+
+add-u : tie.Need-add-u Inv-loop μ-loop
+add-u c = omega (arith, c .before .before .before .before .before .before .before .before .before .before .before .before .before .before .loop .inv .0 .left, c .before .before .before .before .before .before .before .before .before .before .before .before .before .before .loop .inv .0 .fits .2, c .before .before .before .before .before .before .before .before .before .before .before .before .before .loop-test .taken)
+
+add-k : tie.Need-add-k Inv-loop μ-loop
+add-k c = omega (arith, c .before .before .before .before .before .before .before .before .before .before .before .before .before .before .loop .inv .0 .room, c .before .before .before .before .before .before .before .before .before .before .before .before .before .before .loop .inv .0 .fits .1, c .before .before .before .before .before .before .before .before .before .before .before .before .before .loop-test .taken)
+
+sub-n : tie.Need-sub-n Inv-loop μ-loop
+sub-n c = search needs
+
+loop-less : tie.Need-loop-less Inv-loop μ-loop
+loop-less c = omega (arith, c .before .before .before .before .before .before .before .before .before .before .before .before .before .loop-test .taken)
+
+loop-again : tie.Need-loop-again Inv-loop μ-loop
+loop-again c = drain-next (c .before .before .before .before .before .before .before .before .before .before .before .before .before .before .loop .inv) (c .before .before .before .before .before .before .before .before .before .before .before .before .before .loop-test .taken) (sym (c .before .before .before .before .before .before .before .before .before .before .is-straight .ensures) ∙ c .before .before .before .before .before .before .before .before .before .if1 .taken) (c .before .before .before .before .before .before .before .put-read .ensures) (c .before .before .before .put-read2 .ensures) (rw (c .byte-of .ensures))
+
+same-length : tie.Need-same-length Inv-loop μ-loop
+same-length c = c .before .loop .inv .0 .long
+
+same-length-2 : tie.Need-same-length-2 Inv-loop μ-loop
+same-length-2 c = c .before .loop .inv .0 .wide
+
+returns : tie.Need-returns Inv-loop μ-loop
+returns c = (c .before .loop .inv .0 .came, omega (arith, c .before .loop .inv .0 .short), omega (arith, c .before .loop .inv .0 .left), omega (arith, c .before .loop .inv .0 .room), c .before .loop .inv .1)
+
+same-length-3 : tie.Need-same-length-3 Inv-loop μ-loop
+same-length-3 c = c .before .before .before .before .before .loop .inv .0 .long
+
+same-length-4 : tie.Need-same-length-4 Inv-loop μ-loop
+same-length-4 c = c .before .before .before .before .before .loop .inv .0 .wide
+
+returns-2 : tie.Need-returns-2 Inv-loop μ-loop
+returns-2 c = (c .before .before .before .before .before .loop .inv .0 .came, omega (arith, c .before .before .before .before .before .loop .inv .0 .short), omega (arith, c .before .before .before .before .before .loop .inv .0 .left), omega (arith, c .before .before .before .before .before .loop .inv .0 .room), c .before .before .before .before .before .loop .inv .1)
+
+pub drain-spec : {M : Type 1} → statement M
+drain-spec =
+    tie.close
+    (tie.spec
+    Inv-loop
+    μ-loop
+    sub-least
+    sub-least-2
+    sub-least-3
+    sub-least-4
+    least-requires
+    least-requires-2
+    loop-holds
+    mul-status
+    shared-slice-read-status
+    add-word
+    mul-word
+    shared-slice-read-word
+    is-straight-requires
+    put-read-requires
+    add-put-read
+    put-read-requires-2
+    byte-of-requires
+    cast-buffer
+    slice-write-buffer
+    add-i
+    add-u
+    add-k
+    sub-n
+    loop-less
+    loop-again
+    same-length
+    same-length-2
+    returns
+    same-length-3
+    same-length-4
+    returns-2)

@@ -1,0 +1,2 @@
+-- From a burst to the transfer.
+pub mod Coming

@@ -1,0 +1,136 @@
+// The burst that begins at a transfer's point, if one does.
+use transfer::FillPoint;
+use transfer::Point;
+use transfer::ReadPoint;
+use transfer::Round;
+use transfer::RoundPoint;
+use transfer::Transfer;
+use transfer::WritePoint;
+ghost use mathlib.Core.Path.{_≡_};
+ghost use Prim.Native.Nat.{_/_, _≤_};
+ghost use lib.ListN.{length};
+ghost use Rattle.transfer_ahead.specs.GoesAhead.{GoesAhead};
+
+// How far a transfer came: its point, the readings used and the entries in the log.
+pub struct Ahead {
+    pub point: Point,
+    pub used: usize,
+    pub entries: usize,
+}
+
+fn came(point: Point, used: usize, entries: usize) -> Ahead
+    ensures { λ r. ⌜ (r .point ≡ point) × (r .used ≡ used) × (r .entries ≡ entries) ⌝ }
+{
+    Ahead {
+        point,
+        used,
+        entries,
+    }
+}
+
+pub fn burst_from(
+    t: Transfer,
+    bytes: &[u8],
+    readings: &[u32],
+    used: usize,
+    log: &mut [u32],
+    entries: usize,
+    buffer: &mut [u8],
+) -> Ahead
+    requires { ⌜ entries ≤ length (now log) / 2 ⌝ }
+    ensures { λ r. ⌜ GoesAhead (now (bytes .entry)) (now (readings .entry)) (now (log .entry)) (now (buffer .entry)) (now (log .exit)) (now (buffer .exit)) t used entries r ⌝ }
+{
+    let p = t.point;
+    match p {
+        Point::ReadBlocking(r) => match r {
+            ReadPoint::Room(i) => {
+                let b = transfer_burst::read_blocking::burst(
+                    i,
+                    t.len,
+                    t.at,
+                    t.restart,
+                    readings,
+                    used,
+                    log,
+                    entries,
+                    buffer,
+                );
+                came(
+                    Point::ReadBlocking(ReadPoint::Room(b.index)),
+                    b.used,
+                    b.entries,
+                )
+            }
+            _ => came(p, used, entries),
+        },
+        Point::WriteBlocking(w) => match w {
+            WritePoint::Send(i) => {
+                let b = transfer_burst::write_blocking::burst(
+                    i,
+                    t.len,
+                    t.at,
+                    bytes,
+                    readings,
+                    used,
+                    log,
+                    entries,
+                );
+                came(
+                    Point::WriteBlocking(WritePoint::Send(b.index)),
+                    b.used,
+                    b.entries,
+                )
+            }
+            _ => came(p, used, entries),
+        },
+        Point::ReadAsync(q) => match q {
+            RoundPoint::Capacity(round) => {
+                let c = transfer_burst::read_async::burst(
+                    round.remaining,
+                    round.queue,
+                    round.batch,
+                    t.len,
+                    t.at,
+                    t.send_stop,
+                    t.restart,
+                    readings,
+                    used,
+                    log,
+                    entries,
+                    buffer,
+                );
+                came(
+                    Point::ReadAsync(RoundPoint::Capacity(Round {
+                        remaining: c.remaining,
+                        queue: c.queue,
+                        batch: c.batch,
+                    })),
+                    c.used,
+                    c.entries,
+                )
+            }
+            _ => came(p, used, entries),
+        },
+        Point::WriteAsync(f) => match f {
+            FillPoint::Free(i) => {
+                let b = transfer_burst::write_async::burst(
+                    i,
+                    t.len,
+                    t.at,
+                    bytes,
+                    readings,
+                    used,
+                    log,
+                    entries,
+                );
+                came(
+                    Point::WriteAsync(FillPoint::Free(b.index)),
+                    b.used,
+                    b.entries,
+                )
+            }
+            _ => came(p, used, entries),
+        },
+        _ => came(p, used, entries),
+    }
+}
