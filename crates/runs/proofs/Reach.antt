@@ -43,10 +43,10 @@ module _ {M : Machine} {readings : List ℕ} {s₀ : M .S} {e₀ u₀ : ℕ} {l�
 
   -- an access that is done
   module _ {v w : ℕ} (q : performed readings u e (length l / 2) (M .next s) ≡ Did v w) where
-    pub more : e < length l₀ / 2
+    more : e < length l₀ / 2
     more = omega (arith, half, has-room readings (length l / 2 - e) (length l / 2) e u M s v w sum q)
 
-    pub did : Reaches M readings s₀ e₀ u₀ l₀ b₀ (M .advance s v) (e + 1) w (log-after (Did v w) l e (M .next s)) (stored-in b (M .store s v))
+    did : Reaches M readings s₀ e₀ u₀ l₀ b₀ (M .advance s v) (e + 1) w (log-after (Did v w) l e (M .next s)) (stored-in b (M .store s v))
     did =
         let less : length l / 2 - e - 1 ≡ length l₀ / 2 - (e + 1) = omega (arith, half) in
         record {
@@ -57,10 +57,6 @@ module _ {M : Machine} {readings : List ℕ} {s₀ : M .S} {e₀ u₀ : ℕ} {l�
           wide = length-stored b (M .store s v) ∙ g .wide;
           fits = g .fits;
         }
-
-  -- an access that stops the run
-  pub stops : {y : Reply} → performed readings u e (length l / 2) (M .next s) ≡ Stopped y → final y e u l b (M .state s) ≡ ran M readings (length l₀ / 2 - e₀) s₀ e₀ u₀ l₀ b₀
-  stops {y} q = sym (at-stop M readings (length l / 2 - e) (length l / 2) s e u l b y sum q) ∙ base
 
   -- a reading is left and the log has room, so a read is done
   pub did-read : {r : ℕ} {s′ : M .S} {e′ u′ : ℕ} → M .next s ≡ Read r → e < length l₀ / 2 → u < length readings → M .advance s (getD readings u 0) ≡ s′ → e′ ≡ e + 1 → u′ ≡ u + 1
@@ -86,9 +82,33 @@ module _ {M : Machine} {readings : List ℕ} {s₀ : M .S} {e₀ u₀ : ℕ} {l�
       let is : performed readings u e (length l / 2) (M .next s) ≡ Did 0 u = rw (n, lt-ltb e (length l / 2) room) in
       rw p (rw (n, a) at (did is))
 
--- what a part of a run leaves at its end, the whole run leaves
+  -- what performing the access that is next does
+  module _ {n : Next} (en : n ≡ M .next s) {d : Performed} {l′ : List ℕ} (done : (d ≡ performed readings u e (length l / 2) n) × (l′ ≡ log-after d l e n)) where
+    there : performed readings u e (length l / 2) (M .next s) ≡ d
+    there = rw (← en) (sym (done .0))
+
+    pub halts : {r : Reply} → d ≡ Stopped r → final r e u l′ b (M .state s) ≡ ran M readings (length l / 2 - e) s e u l b
+    halts {r} q =
+        let el : l′ ≡ l = done .1 ∙ ap (λ (x : Performed). log-after x l e n) q in
+        rw el (sym (at-stop M readings (length l / 2 - e) (length l / 2) s e u l b r sum (there ∙ q)))
+
+    pub goes : {v w : ℕ} {k : Store} {b′ : List ℕ} {s′ : M .S} → d ≡ Did v w → k ≡ M .store s v → b′ ≡ stored-in b k → s′ ≡ M .advance s v
+        → Reaches M readings s₀ e₀ u₀ l₀ b₀ s′ (e + 1) w l′ b′
+    goes {v} {w} q ek eb es =
+        let el : l′ ≡ log-after (Did v w) l e n = done .1 ∙ ap (λ (x : Performed). log-after x l e n) q in
+        rw (el, eb, ek, es, en) (did (there ∙ q))
+
+    pub has-more : {v w : ℕ} → d ≡ Did v w → e < length l₀ / 2
+    has-more q = more (there ∙ q)
+
+-- what a part of a run leaves at its end, the run from an earlier state leaves
+pub ends : {M : Machine} {readings : List ℕ} {s₀ : M .S} {e₀ u₀ : ℕ} {l₀ b₀ : List ℕ} {s : M .S} {e u : ℕ} {l b : List ℕ} {f : Final (M .K)} → Reaches M readings s₀ e₀ u₀ l₀ b₀ s e u l b
+    → f ≡ ran M readings (length l / 2 - e) s e u l b → f ≡ ran M readings (length l₀ / 2 - e₀) s₀ e₀ u₀ l₀ b₀
+ends g x = x ∙ base g
+
+-- and so does the whole run
 pub whole : {M : Machine} {readings : List ℕ} {s₀ : M .S} {l₀ b₀ : List ℕ} {s : M .S} {e u : ℕ} {l b : List ℕ} {f : Final (M .K)} → Reaches M readings s₀ 0 0 l₀ b₀ s e u l b
     → f ≡ ran M readings (length l / 2 - e) s e u l b → f ≡ ran M readings (length l₀ / 2) s₀ 0 0 l₀ b₀
 whole {l₀ = l₀} g x =
     let z : length l₀ / 2 - 0 ≡ length l₀ / 2 = omega arith in
-    rw z at (x ∙ base g)
+    rw z at (ends g x)

@@ -35,7 +35,7 @@ module _ (bytes : List ℕ) {readings : List ℕ} (me : SlaveState) {s₀ : Slav
       let q : e + 2 ≡ e + 1 + 1 = omega arith in
       let v : u + 2 ≡ u + 1 + 1 = omega arith in
       let a₂ : M .advance (slave me places (Listening (DataCmd stat i))) (getD readings (u + 1) 0) ≡ slave me places (Listening (Status stat (i + 1))) =
-          rw (this, lt-ltb i places (omega (arith, more)), lt-ltb (i + 1) places more) in
+      rw (this, lt-ltb i places (omega (arith, more)), lt-ltb (i + 1) places more) in
       let w : M .store (slave me places (Listening (DataCmd stat i))) (getD readings (u + 1) 0) ≡ S.Byte i (dat (getD readings (u + 1) 0)) = rw (this, lt-ltb i places (omega (arith, more))) in
       rw w at (did-read g₁ refl (omega (arith, room)) (omega (arith, left)) a₂ q v)
 
@@ -59,15 +59,14 @@ drain-next {from} {places} {readings} {used} {l₀} {entries} {b₀} {l} {b} {n}
     let both = both-of (rfne (getD readings u 0)) (not next) straight in
     let has-room : k + 2 ≤ length l₀ / 2 = omega (arith, g .room, more) in
     let has-left : u + 2 ≤ length readings = omega (arith, g .left, more) in
-    let before : i + 1 < places = omega (arith, g .short, more) in
-    (
+    let before : i + 1 < places = omega (arith, g .short, more) in (
       turn g more
-        (λ stat. record {
-          reaches = λ bytes me none. rw (e₂, e₁, eb) (byte-drained bytes me places stat i (g .came stat .reaches bytes me none) has-room has-left (both .0) (not-true next (both .1)) before)
-        })
-        (omega (arith, g .room, more))
-        (omega (arith, g .left, more))
-        (rw (e₂, e₁) (simp length-set))
-        (rw eb (simp length-set)),
+          (λ stat. record {
+            reaches = λ bytes me none. rw (e₂, e₁, eb) (byte-drained bytes me places stat i (g .came stat .reaches bytes me none) has-room has-left (both .0) (not-true next (both .1)) before);
+          })
+          (omega (arith, g .room, more))
+          (omega (arith, g .left, more))
+          (rw (e₂, e₁) (simp length-set))
+          (rw eb (simp length-set)),
       omega (arith, up),
     )

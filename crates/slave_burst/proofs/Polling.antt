@@ -35,7 +35,7 @@ module _ (bytes : List ℕ) {readings : List ℕ} (me : SlaveState) (none : me .
       let g₁ = did-read g refl (omega (arith, room)) left a₁ refl refl in
       let q₂ : e + 2 ≡ e + 1 + 1 = omega arith in
       let a₂ : M .advance (slave me places (Listening (Watermark stat i))) 0 ≡ slave me places (Listening (IntrMask i)) =
-          rw (ne-eqb places i (λ (z : places ≡ i). omega (arith, more, z)), quiet, on, and-false, and-false) in
+      rw (ne-eqb places i (λ (z : places ≡ i). omega (arith, more, z)), quiet, on, and-false, and-false) in
       let g₂ = did-write g₁ {r = RX-TL} {x = 11} refl (omega (arith, room)) a₂ q₂ in
       let q₃ : e + 3 ≡ e + 2 + 1 = omega arith in
       let g₃ = did-write g₂ {r = INTR-MASK} {x = 0x1a24} refl (omega (arith, room)) refl q₃ in
@@ -53,7 +53,7 @@ module _ (bytes : List ℕ) {readings : List ℕ} (me : SlaveState) (none : me .
       let q : e + 2 ≡ e + 1 + 1 = omega arith in
       let v : u + 2 ≡ u + 1 + 1 = omega arith in
       let a : M .advance (slave me places (Listening (Rxflr (getD readings u 0) i))) (getD readings (u + 1) 0) ≡ slave me places (Listening (Status (getD readings u 0) i)) =
-          rw (none, lt-ltb 0 (level (getD readings (u + 1) 0)) filled, lt-ltb i places more) in
+      rw (none, lt-ltb 0 (level (getD readings (u + 1) 0)) filled, lt-ltb i places more) in
       let w : M .store (slave me places (Listening (Rxflr (getD readings u 0) i))) (getD readings (u + 1) 0) ≡ S.Nothing = rw (none, lt-ltb 0 (level (getD readings (u + 1) 0)) filled) in
       rw w at (did-read g₁ refl (omega (arith, room)) (omega (arith, left)) a q v)
 
@@ -65,20 +65,20 @@ pub poll-done : {places : ℕ} {readings : List ℕ} {stat i entries used : ℕ}
     → ForAny (λ (b : List ℕ). Drains places readings stat i entries used l b (getD readings (used + 1) 0) i (entries + 6) (used + 3) l₆ b)
 poll-done {places} {readings} {stat} {i} {entries} {used} {l} more left room fits straight e₁ e₂ e₃ e₄ e₅ e₆ = λ b. record {
   reaches = λ bytes me none.
-    let status = getD readings used 0 in
-    let filled = getD readings (used + 2) 0 in
-    let s₁ = both-of (not (rfne status)) (not (rd-req stat) && (not (stop-det stat) && not (eqb (level filled) 0))) straight in
-    let s₂ = both-of (not (rd-req stat)) (not (stop-det stat) && not (eqb (level filled) 0)) (s₁ .1) in
-    let s₃ = both-of (not (stop-det stat)) (not (eqb (level filled) 0)) (s₂ .1) in
-    let some : (level filled ≡ 0) → ⊥ = eqb-false (level filled) 0 (not-true (eqb (level filled) 0) (s₃ .1)) in
-    let u₂ : used + 1 + 1 ≡ used + 2 = omega arith in
-    let u₃ : used + 1 + 2 ≡ used + 3 = omega arith in
-    let q₅ : entries + 4 + 1 ≡ entries + 5 = omega arith in
-    let q₆ : entries + 4 + 2 ≡ entries + 6 = omega arith in
-    let g₀ = stays (machine bytes) readings {s = slave me places (Listening (Status stat i))} {e = entries} {u = used} {l = l} {b = b} (omega (arith, room)) fits in
-    let g₄ = waits bytes me none places stat i g₀ (omega (arith, room)) (omega (arith, left)) (not-true (rfne status) (s₁ .0)) (not-true (rd-req stat) (s₂ .0)) (not-true (stop-det stat) (s₃ .0)) more in
-    let g₆ = polls bytes me none places stat i g₄ (omega (arith, room)) (omega (arith, left)) (rw u₂ (omega (arith, some))) more in
-    rw (e₆, e₅, e₄, e₃, e₂, e₁) (rw (u₂, u₃, q₅, q₆) at g₆)
+      let status = getD readings used 0 in
+      let filled = getD readings (used + 2) 0 in
+      let s₁ = both-of (not (rfne status)) (not (rd-req stat) && (not (stop-det stat) && not (eqb (level filled) 0))) straight in
+      let s₂ = both-of (not (rd-req stat)) (not (stop-det stat) && not (eqb (level filled) 0)) (s₁ .1) in
+      let s₃ = both-of (not (stop-det stat)) (not (eqb (level filled) 0)) (s₂ .1) in
+      let some : (level filled ≡ 0) → ⊥ = eqb-false (level filled) 0 (not-true (eqb (level filled) 0) (s₃ .1)) in
+      let u₂ : used + 1 + 1 ≡ used + 2 = omega arith in
+      let u₃ : used + 1 + 2 ≡ used + 3 = omega arith in
+      let q₅ : entries + 4 + 1 ≡ entries + 5 = omega arith in
+      let q₆ : entries + 4 + 2 ≡ entries + 6 = omega arith in
+      let g₀ = stays (machine bytes) readings {s = slave me places (Listening (Status stat i))} {e = entries} {u = used} {l = l} {b = b} (omega (arith, room)) fits in
+      let g₄ = waits bytes me none places stat i g₀ (omega (arith, room)) (omega (arith, left)) (not-true (rfne status) (s₁ .0)) (not-true (rd-req stat) (s₂ .0)) (not-true (stop-det stat) (s₃ .0)) more in
+      let g₆ = polls bytes me none places stat i g₄ (omega (arith, room)) (omega (arith, left)) (rw u₂ (omega (arith, some))) more in
+      rw (e₆, e₅, e₄, e₃, e₂, e₁) (rw (u₂, u₃, q₅, q₆) at g₆);
 }
 
 -- one part after the other

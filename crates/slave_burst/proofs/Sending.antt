@@ -47,7 +47,7 @@ module _ (bytes : List ℕ) {readings : List ℕ} (me : SlaveState) (job : Job) 
       → Reaches (machine bytes) readings s₀ e₀ u₀ l₀ b₀ (slave me count (Responding (response job (ClrRdReq i end)))) (e + 1) (u + 1) (entered l e (0x100 + RAW-INTR-STAT) (getD readings u 0)) b
   poll-sends g own quiet more ends room left =
       let a : machine bytes .advance (slave me count (Responding (response job (RawIntrStat i)))) (getD readings u 0) ≡ slave me count (Responding (response job (ClrRdReq i (chunk-end i count)))) =
-          rw (quiet, own, lt-ltb i count more) in
+      rw (quiet, own, lt-ltb i count more) in
       rw ends (did-read g refl room left a refl refl)
 
   -- until the next poll
@@ -143,11 +143,11 @@ module _ {from count : ℕ} {bytes readings : List ℕ} {used : ℕ} {l₀ : Lis
       record {
         came = record {
           reaches = λ me job b own same.
-            let g₁ = poll-sends bytes me job count i (i + n) (g .came .reaches me job b own same) own (s .quiet) (s .before) (s .ends) (omega (arith, fit)) (omega (arith, s .left)) in
-            let g₂ = (then) (rw (← e₁) at g₁) (f count .reaches me job b own same) in
-            let at-next : k + 1 + n * 2 ≡ next = omega (arith, en) in
-            let g₃ = waits bytes me job count (i + n) (i + n) (rw at-next at g₂) (omega (arith, en, fit)) in
-            rw (← e₃, ← e₄) at g₃
+              let g₁ = poll-sends bytes me job count i (i + n) (g .came .reaches me job b own same) own (s .quiet) (s .before) (s .ends) (omega (arith, fit)) (omega (arith, s .left)) in
+              let g₂ = (then) (rw (← e₁) at g₁) (f count .reaches me job b own same) in
+              let at-next : k + 1 + n * 2 ≡ next = omega (arith, en) in
+              let g₃ = waits bytes me job count (i + n) (i + n) (rw at-next at g₂) (omega (arith, en, fit)) in
+              rw (← e₃, ← e₄) at g₃;
         };
         room = omega (arith, en, fit);
         long = long ∙ g .long;

@@ -86,7 +86,15 @@ fn is_straight_poll(stat: u32, status: u32, filled: u32) -> bool
 }
 
 // The empty FIFO, and the next poll.
-fn poll(stat: u32, i: u16, places: u16, readings: &[u32], used: usize, log: &mut [u32], entries: usize)
+fn poll(
+    stat: u32,
+    i: u16,
+    places: u16,
+    readings: &[u32],
+    used: usize,
+    log: &mut [u32],
+    entries: usize,
+)
     requires { ⌜ (i < places) × (used + 3 ≤ length (now readings)) × (entries + 6 ≤ length (now log) / 2) × (straight-poll stat (getD (now readings) used 0) (getD (now readings) (used + 2) 0) ≡ true) ⌝ }
     ensures { λ _. ⌜ ForAny (λ (buffer : List ℕ). Drains places (now (readings .entry)) stat i entries used (now (log .entry)) buffer (getD (now (readings .entry)) (used + 1) 0) i (entries + 6) (used + 3) (now (log .exit)) buffer) ⌝ }
 {

@@ -46,14 +46,7 @@ fn send(
 }
 
 // The bytes of the chunk that begins at i and leads straight on; 0 where it does not.
-fn planned(
-    i: u16,
-    count: u16,
-    readings: &[u32],
-    used: usize,
-    entries: usize,
-    room: usize,
-) -> u16
+fn planned(i: u16, count: u16, readings: &[u32], used: usize, entries: usize, room: usize) -> u16
     requires { ⌜ entries ≤ room ⌝ }
     ensures { λ r. ⌜ (0 < r → StraightChunk (now (readings .entry)) used entries room i count r) ⌝ }
 {

@@ -18,7 +18,7 @@ pub struct Left {
     pub ran: Ran,
 }
 
-// The steps from a point to the end: `ran` is made of the machine's next access and its advance, so a run is what stepping by hand does.
+// The steps from a point to the end, a burst and an access at a time: `ran` is made of the machine's next access and its advance, so a run is what stepping by hand does.
 pub fn run(from: Slave, bytes: &[u8], readings: &[u32], log: &mut [u32], buffer: &mut [u8]) -> Left
     ensures { λ r. ⌜ final (r .ran .reply) (r .ran .entries) (r .ran .used) (now (log .exit)) (now (buffer .exit)) (r .state) ≡ ran (machine (now (bytes .entry))) (now (readings .entry)) (length (now (log .entry)) / 2) from 0 0 (now (log .entry)) (now (buffer .entry)) ⌝ }
 {
@@ -26,6 +26,11 @@ pub fn run(from: Slave, bytes: &[u8], readings: &[u32], log: &mut [u32], buffer:
     let mut entries: usize = 0;
     let mut used: usize = 0;
     loop {
+        let a = slave_ahead::burst_from(p, bytes, readings, used, log, entries, buffer);
+        let point = a.point;
+        p = slave_steps::at_point(p, point);
+        used = a.used;
+        entries = a.entries;
         let n = slave_steps::next_access(p, bytes);
         match regs::access::perform(n, readings, used, log, entries) {
             Performed::Stopped(r) => {

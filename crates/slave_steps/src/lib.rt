@@ -47,6 +47,14 @@ fn at(state: SlaveState, length: u16, point: Point) -> Slave
     }
 }
 
+// The slave at another point.
+pub fn at_point(s: Slave, point: Point) -> Slave
+    ensures { λ r. ⌜ r ≡ slave (s .state) (s .length) point ⌝ }
+{
+    let state = s.state;
+    at(state, s.length, point)
+}
+
 // `reset`: no slave has the address 0.
 pub fn start_reset(state: SlaveState, address: u16, general_call: bool) -> Slave
     ensures { λ r. ⌜ r ≡ start-reset state address «general_call» ⌝ }

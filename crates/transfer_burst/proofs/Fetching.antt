@@ -38,7 +38,7 @@ module _ (kinds lengths bytes : List ℕ) {readings : List ℕ} (t : Transfer) {
       let remains : eqb remaining 0 ≡ false = ne-eqb remaining 0 (λ (z : remaining ≡ 0). omega (arith, some, z)) in
       let at : Reaches (machine kinds lengths bytes) readings s₀ e₀ u₀ l₀ b₀ (with-point t (ReadAsync (Fetch (round remaining queue batch) left))) e u l b = rw not-yet at g in
       let next : machine kinds lengths bytes .advance (with-point t (ReadAsync (Fetch (round remaining queue batch) left))) (getD readings u 0) ≡ with-point t (fetched (round remaining queue batch) (left - 1)) =
-          rw remains (chosen kinds lengths (with-point t (ReadAsync (Fetch (round remaining queue batch) left))) (eqb (left - 1) 0) (ReadAsync (Capacity (round remaining queue batch))) (ReadAsync (Fetch (round remaining queue batch) (left - 1)))) in
+      rw remains (chosen kinds lengths (with-point t (ReadAsync (Fetch (round remaining queue batch) left))) (eqb (left - 1) 0) (ReadAsync (Capacity (round remaining queue batch))) (ReadAsync (Fetch (round remaining queue batch) (left - 1)))) in
       rw to at (did-read at refl room has next refl refl)
 
 -- the loop's head
@@ -83,12 +83,12 @@ module _ {remaining n len at : ℕ} {readings : List ℕ} {u₀ : ℕ} {l₀ : L
       → Fetching remaining n len at readings u₀ l₀ e₀ b₀ l′ b′ (place + 1) (left - 1) (u + 1) (e + 1)
   one-fetched {l} {b} {place} {left} {u} {e} g more el′ eb′ =
       let to : (at + (len - remaining - left)) % 2 ^ 64 ≡ place =
-          let exact : at + (len - remaining - left) ≡ place = omega (arith, g .stored, g .within, g .few) in
-          let small : place < 2 ^ 64 = omega (arith, g .stored, g .held, g .fits .0) in
-          rw exact (omega (arith, small)) in
+      let exact : at + (len - remaining - left) ≡ place = omega (arith, g .stored, g .within, g .few) in
+      let small : place < 2 ^ 64 = omega (arith, g .stored, g .held, g .fits .0) in
+      rw exact (omega (arith, small)) in
       record {
         came = λ kinds lengths bytes t queue batch el ea.
-          rw (el′, eb′)
+            rw (el′, eb′)
             (byte-fetched kinds lengths bytes t remaining queue batch left place (g .came kinds lengths bytes t queue batch el ea) more (g .some) (omega (arith, g .counted, g .room, more)) (omega (arith, g .taken, g .has, more)) (rw (el, ea) to));
         some = g .some;
         within = g .within;

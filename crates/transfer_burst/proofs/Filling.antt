@@ -37,8 +37,8 @@ module _ (kinds lengths bytes : List ℕ) {readings : List ℕ} (t : Transfer) {
       let some : eqb left 0 ≡ false = ne-eqb left 0 (λ (z : left ≡ 0). omega (arith, more, z)) in
       let at : Reaches (machine kinds lengths bytes) readings s₀ e₀ u₀ l₀ b₀ (with-point t (WriteAsync (Fill i left))) e u l b = rw some at g in
       let next : machine kinds lengths bytes .advance (with-point t (WriteAsync (Fill i left))) 0 ≡ with-point t (filled (i + 1) (left - 1)) =
-          rw (lt-ltb i (t .len) (omega (arith, before)), lt-ltb (i + 1) (t .len) before)
-            (chosen kinds lengths (with-point t (WriteAsync (Fill i left))) (eqb (left - 1) 0) (Abort Source (Space (i + 1))) (WriteAsync (Fill (i + 1) (left - 1)))) in
+      rw (lt-ltb i (t .len) (omega (arith, before)), lt-ltb (i + 1) (t .len) before)
+      (chosen kinds lengths (with-point t (WriteAsync (Fill i left))) (eqb (left - 1) 0) (Abort Source (Space (i + 1))) (WriteAsync (Fill (i + 1) (left - 1)))) in
       did-write at {r = DATA-CMD} {x = command-word (getD bytes (t .at + i) 0) false false false} (rw (ne-eqb (i + 1) (t .len) (λ (z : i + 1 ≡ t .len). omega (arith, before, z)))) room next refl
 
 -- the loop's head
@@ -74,7 +74,7 @@ module _ {from space len at : ℕ} {bytes l₀ : List ℕ} {e₀ : ℕ} where
       let next : i + 1 < len = omega (arith, g .passed, g .before, more) in
       record {
         came = λ kinds lengths readings t u b el ea.
-          rw (el′, ew, ← ea) (byte-filled kinds lengths bytes t i left (g .came kinds lengths readings t u b el ea) more (rw el next) (omega (arith, g .counted, g .room, more)));
+            rw (el′, ew, ← ea) (byte-filled kinds lengths bytes t i left (g .came kinds lengths readings t u b el ea) more (rw el next) (omega (arith, g .counted, g .room, more)));
         passed = omega (arith, g .passed, more);
         before = g .before;
         counted = omega (arith, g .counted, more);

@@ -30,7 +30,7 @@ module _ (kinds lengths bytes : List ℕ) {readings : List ℕ} (t : Transfer) {
       let n = level (getD readings u 0) in
       let low : n < 16 = omega (arith, some, is) in
       let a : machine kinds lengths bytes .advance (with-point t (WriteAsync (Free i))) (getD readings u 0) ≡ with-point t (WriteAsync (Fill i space)) =
-          rw (le-ltb 16 n (omega (arith, low)), ← is, ne-eqb space 0 (λ (z : space ≡ 0). omega (arith, some, z)), lt-ltb i (t .len) before) in
+      rw (le-ltb 16 n (omega (arith, low)), ← is, ne-eqb space 0 (λ (z : space ≡ 0). omega (arith, some, z)), lt-ltb i (t .len) before) in
       did-read g refl room left a refl refl
 
   -- TX_ABRT_SOURCE and TXFLR
@@ -46,7 +46,7 @@ module _ (kinds lengths bytes : List ℕ) {readings : List ℕ} (t : Transfer) {
       let q : e + 2 ≡ e + 1 + 1 = omega arith in
       let v : u + 2 ≡ u + 1 + 1 = omega arith in
       let a₂ : machine kinds lengths bytes .advance (with-point t (WriteAsync (Full i))) (getD readings (u + 1) 0) ≡ with-point t (WriteAsync (Free i)) =
-          rw (le-ltb 16 n (omega (arith, again)), ne-eqb (16 - n) 0 (λ (z : 16 - n ≡ 0). omega (arith, again, z))) in
+      rw (le-ltb 16 n (omega (arith, again)), ne-eqb (16 - n) 0 (λ (z : 16 - n ≡ 0). omega (arith, again, z))) in
       did-read g₁ refl (omega (arith, room)) (omega (arith, left)) a₂ q v
 
 -- how far the rounds came; the read buffer is not touched
@@ -80,13 +80,13 @@ module _ {from len at : ℕ} {bytes readings : List ℕ} {used : ℕ} {l₀ : Li
       record {
         reaches = λ restart buffer. record {
           reaches = λ kinds lengths t el ea es.
-            let g₁ = counted kinds lengths bytes t i n (g .reaches restart buffer .reaches kinds lengths t el ea es) some (s .space-is) (rw el (omega (arith, s .before-last))) (omega (arith, fit)) (omega (arith, s .left)) in
-            let g₂ = then (rw (← e₁) at g₁) (f .reaches kinds lengths readings t (u + 1) buffer el ea) in
-            let u₂ : u + 1 + 1 ≡ u + 2 = omega arith in
-            let u₃ : u + 1 + 2 ≡ u + 3 = omega arith in
-            let at-next : k + 1 + n ≡ next = omega (arith, en) in
-            let g₃ = polled kinds lengths bytes t (i + n) n (rw at-next at g₂) (s .quiet) (rw u₂ (s .again)) (omega (arith, en, fit)) (omega (arith, s .left)) in
-            rw (u₂, u₃, ← e₃, ← e₄) at g₃
+              let g₁ = counted kinds lengths bytes t i n (g .reaches restart buffer .reaches kinds lengths t el ea es) some (s .space-is) (rw el (omega (arith, s .before-last))) (omega (arith, fit)) (omega (arith, s .left)) in
+              let g₂ = then (rw (← e₁) at g₁) (f .reaches kinds lengths readings t (u + 1) buffer el ea) in
+              let u₂ : u + 1 + 1 ≡ u + 2 = omega arith in
+              let u₃ : u + 1 + 2 ≡ u + 3 = omega arith in
+              let at-next : k + 1 + n ≡ next = omega (arith, en) in
+              let g₃ = polled kinds lengths bytes t (i + n) n (rw at-next at g₂) (s .quiet) (rw u₂ (s .again)) (omega (arith, en, fit)) (omega (arith, s .left)) in
+              rw (u₂, u₃, ← e₃, ← e₄) at g₃;
         };
         held = g .held;
         left = s .left;

@@ -35,7 +35,7 @@ module _ (kinds lengths bytes : List ℕ) {readings : List ℕ} (t : Transfer) {
       let some : eqb left 0 ≡ false = ne-eqb left 0 (λ (z : left ≡ 0). omega (arith, more, z)) in
       let at : Reaches (machine kinds lengths bytes) readings s₀ e₀ u₀ l₀ b₀ (with-point t (ReadAsync (Queue (round remaining q batch) left))) e u l b = rw some at g in
       let next : machine kinds lengths bytes .advance (with-point t (ReadAsync (Queue (round remaining q batch) left))) 0 ≡ with-point t (queueing (round remaining (q - 1) batch) (left - 1)) =
-          chosen kinds lengths (with-point t (ReadAsync (Queue (round remaining q batch) left))) (eqb (left - 1) 0) (ReadAsync (Level (round remaining (q - 1) batch))) (ReadAsync (Queue (round remaining (q - 1) batch) (left - 1))) in
+      chosen kinds lengths (with-point t (ReadAsync (Queue (round remaining q batch) left))) (eqb (left - 1) 0) (ReadAsync (Level (round remaining (q - 1) batch))) (ReadAsync (Queue (round remaining (q - 1) batch) (left - 1))) in
       did-write at refl room next refl
 
 -- the loop's head
@@ -67,7 +67,7 @@ module _ {queue words len : ℕ} {send-stop restart : Bool} {l₀ : List ℕ} {e
   one-queued {l} {q} {left} {e} g more ew el′ =
       record {
         came = λ kinds lengths bytes readings t remaining batch u b el es er.
-          rw (el′, ew, ← el, ← es, ← er)
+            rw (el′, ew, ← el, ← es, ← er)
             (word-queued kinds lengths bytes t remaining q batch left (g .came kinds lengths bytes readings t remaining batch u b el es er) more (omega (arith, g .counted, g .room, more)));
         queue-left = omega (arith, g .queue-left, g .enough, more);
         enough = omega (arith, g .enough);

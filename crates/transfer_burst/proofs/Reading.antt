@@ -32,7 +32,7 @@ module _ (kinds lengths bytes : List ℕ) {readings : List ℕ} (t : Transfer) {
       let n = level (getD readings u 0) in
       let M = machine kinds lengths bytes in
       let a : M .advance (with-point t (ReadBlocking (Room i))) (getD readings u 0) ≡ with-point t (ReadBlocking (Ask i)) =
-          rw (le-ltb 16 n (omega (arith, free)), ne-eqb (16 - n) 0 (λ (z : 16 - n ≡ 0). omega (arith, free, z))) in
+      rw (le-ltb 16 n (omega (arith, free)), ne-eqb (16 - n) 0 (λ (z : 16 - n ≡ 0). omega (arith, free, z))) in
       let g₁ = did-read g refl (omega (arith, room)) (omega (arith, left)) a refl refl in
       let q₂ : e + 2 ≡ e + 1 + 1 = omega arith in
       let g₂ = did-write g₁ {r = DATA-CMD} {x = command-word 0 true false (t .restart && eqb i 0)} (rw (ne-eqb i (t .len - 1) (λ (z : i ≡ t .len - 1). omega (arith, more, z)), and-false)) (omega (arith, room)) refl q₂ in
@@ -43,7 +43,7 @@ module _ (kinds lengths bytes : List ℕ) {readings : List ℕ} (t : Transfer) {
       let v₄ : u + 3 ≡ u + 2 + 1 = omega arith in
       let q₄ : e + 4 ≡ e + 3 + 1 = omega arith in
       let a₄ : M .advance (with-point t (ReadBlocking (Take i))) (getD readings (u + 2) 0) ≡ with-point t (ReadBlocking (Room (i + 1))) =
-          rw (lt-ltb i (t .len) (omega (arith, more)), lt-ltb (i + 1) (t .len) more) in
+      rw (lt-ltb i (t .len) (omega (arith, more)), lt-ltb (i + 1) (t .len) more) in
       let w : (t .at + i) % 2 ^ 64 ≡ t .at + i = omega (arith, place) in
       rw w at (did-read g₃ refl (omega (arith, room)) (omega (arith, left)) a₄ q₄ v₄)
 
@@ -75,12 +75,12 @@ read-next {from} {len} {at} {restart} {readings} {used} {l₀} {entries} {b₀} 
     let next : i + 1 < len = omega (arith, g .short, more) in
     let place : at + i < 2 ^ 64 = omega (arith, g .held, g .fits .0, next) in
     turn g more
-      (λ bytes. record {
-        reaches = λ kinds lengths t el ea er.
+    (λ bytes. record {
+      reaches = λ kinds lengths t el ea er.
           rw (e₄, e₃, e₂, e₁, eb, ew, ← ea, ← er)
-            (byte-read kinds lengths bytes t (g .came bytes .reaches kinds lengths t el ea er) has-room has-left free filled (rw el next) (rw ea place))
-      })
-      (omega (arith, g .room, more))
-      (omega (arith, g .left, more))
-      (rw (e₄, e₃, e₂, e₁) (simp length-set))
-      (rw eb (simp length-set))
+          (byte-read kinds lengths bytes t (g .came bytes .reaches kinds lengths t el ea er) has-room has-left free filled (rw el next) (rw ea place));
+    })
+    (omega (arith, g .room, more))
+    (omega (arith, g .left, more))
+    (rw (e₄, e₃, e₂, e₁) (simp length-set))
+    (rw eb (simp length-set))

@@ -32,7 +32,7 @@ module _ (kinds lengths bytes : List ℕ) {readings : List ℕ} (t : Transfer) {
       let n = level (getD readings u 0) in
       let low : n < 16 = omega (arith, some, are) in
       let a : machine kinds lengths bytes .advance (with-point t (ReadAsync (Capacity (round remaining queue batch)))) (getD readings u 0) ≡ with-point t (ReadAsync (Queue (round remaining queue words) words)) =
-          rw (le-ltb 16 n (omega (arith, low)), ← are, ne-eqb words 0 (λ (z : words ≡ 0). omega (arith, some, z))) in
+      rw (le-ltb 16 n (omega (arith, low)), ← are, ne-eqb words 0 (λ (z : words ≡ 0). omega (arith, some, z))) in
       did-read g refl room left a refl refl
 
   -- RXFLR and TX_ABRT_SOURCE
@@ -48,7 +48,7 @@ module _ (kinds lengths bytes : List ℕ) {readings : List ℕ} (t : Transfer) {
       let v : u + 2 ≡ u + 1 + 1 = omega arith in
       let got : count ≡ 0 → ⊥ = λ (z : count ≡ 0). omega (arith, some, remains, filled, are, z) in
       let a : machine kinds lengths bytes .advance (with-point t (Abort Source (Batch (round remaining queue batch) n))) (getD readings (u + 1) 0) ≡ with-point t (ReadAsync (Fetch (round (remaining - count) queue batch) count)) =
-          rw (eq-eqb (getD readings (u + 1) 0) 0 quiet, le-ltb n batch filled, ← are, ne-eqb count 0 got) in
+      rw (eq-eqb (getD readings (u + 1) 0) 0 quiet, le-ltb n batch filled, ← are, ne-eqb count 0 got) in
       did-read g₁ refl (omega (arith, room)) (omega (arith, left)) a q v
 
 -- a round
@@ -60,17 +60,17 @@ pub round-done : {len at : ℕ} {send-stop restart : Bool} {readings : List ℕ}
     → ForAny (λ (batch : ℕ). Rounds len at send-stop restart readings (round remaining queue batch) entries used l b (round (remaining - count) (queue - words) words) (entries + words + count + 3) (used + count + 3) l₅ b′)
 round-done {len} {at} {send-stop} {restart} {readings} {remaining} {queue} {words} {count} {used} {entries} {l} {b} {l₁} {l₂} {l₃} {l₄} {l₅} {b′} {k} s some fits ek e₁ q e₃ e₄ f = λ batch. record {
   reaches = λ kinds lengths bytes t el ea es er.
-    let g₀ = stays (machine kinds lengths bytes) readings {s = with-point t (ReadAsync (Capacity (round remaining queue batch)))} {e = entries} {u = used} {l = l} {b = b} (omega (arith, s .fits)) fits in
-    let g₁ = counted kinds lengths bytes t remaining queue batch words count g₀ some (s .words-are) (omega (arith, s .fits)) (omega (arith, s .left)) in
-    let g₂ = then (rw (← e₁) at g₁) (q .reaches kinds lengths bytes readings t remaining words (used + 1) b el es er) in
-    let at-k : entries + 1 + words ≡ k = sym ek in
-    let u₂ : used + 1 + 1 ≡ used + 2 = omega arith in
-    let u₃ : used + 1 + 2 ≡ used + 3 = omega arith in
-    let g₃ = polled kinds lengths bytes t remaining (queue - words) words words count (rw at-k at g₂) some (omega (arith, s .more)) (s .filled) (rw u₂ (s .quiet)) (s .count-is) (omega (arith, ek, s .fits)) (omega (arith, s .left)) in
-    let g₄ = then (rw (u₂, u₃, ← e₃, ← e₄) at g₃) (f .reaches kinds lengths bytes t (queue - words) words el ea) in
-    let ee : entries + words + count + 3 ≡ k + 2 + count = omega (arith, ek) in
-    let eu : used + count + 3 ≡ used + 3 + count = omega arith in
-    rw (ee, eu) g₄
+      let g₀ = stays (machine kinds lengths bytes) readings {s = with-point t (ReadAsync (Capacity (round remaining queue batch)))} {e = entries} {u = used} {l = l} {b = b} (omega (arith, s .fits)) fits in
+      let g₁ = counted kinds lengths bytes t remaining queue batch words count g₀ some (s .words-are) (omega (arith, s .fits)) (omega (arith, s .left)) in
+      let g₂ = then (rw (← e₁) at g₁) (q .reaches kinds lengths bytes readings t remaining words (used + 1) b el es er) in
+      let at-k : entries + 1 + words ≡ k = sym ek in
+      let u₂ : used + 1 + 1 ≡ used + 2 = omega arith in
+      let u₃ : used + 1 + 2 ≡ used + 3 = omega arith in
+      let g₃ = polled kinds lengths bytes t remaining (queue - words) words words count (rw at-k at g₂) some (omega (arith, s .more)) (s .filled) (rw u₂ (s .quiet)) (s .count-is) (omega (arith, ek, s .fits)) (omega (arith, s .left)) in
+      let g₄ = then (rw (u₂, u₃, ← e₃, ← e₄) at g₃) (f .reaches kinds lengths bytes t (queue - words) words el ea) in
+      let ee : entries + words + count + 3 ≡ k + 2 + count = omega (arith, ek) in
+      let eu : used + count + 3 ≡ used + 3 + count = omega arith in
+      rw (ee, eu) g₄;
 }
 
 -- how far the rounds came

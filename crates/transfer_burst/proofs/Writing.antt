@@ -40,7 +40,7 @@ module _ (kinds lengths bytes : List ℕ) {readings : List ℕ} (t : Transfer) {
       let v₃ : u + 2 ≡ u + 1 + 1 = omega arith in
       let q₃ : e + 3 ≡ e + 2 + 1 = omega arith in
       let a₃ : M .advance (with-point t (Abort Source (Write i))) (getD readings (u + 1) 0) ≡ with-point t (WriteBlocking (Send (i + 1))) =
-          rw (eq-eqb (getD readings (u + 1) 0) 0 quiet, last, and-false, lt-ltb i (t .len) (omega (arith, more)), lt-ltb (i + 1) (t .len) more) in
+      rw (eq-eqb (getD readings (u + 1) 0) 0 quiet, last, and-false, lt-ltb i (t .len) (omega (arith, more)), lt-ltb (i + 1) (t .len) more) in
       did-read g₂ refl (omega (arith, room)) (omega (arith, left)) a₃ q₃ v₃
 
 -- how far the bytes came; the read buffer is not touched
@@ -69,12 +69,12 @@ write-next {from} {len} {at} {bytes} {readings} {used} {l₀} {entries} {l} {n} 
     let has-left : u + 2 ≤ length readings = omega (arith, g .left, more) in
     let next : i + 1 < len = omega (arith, g .short, more) in
     turn g more
-      (λ restart buffer. record {
-        reaches = λ kinds lengths t el ea er.
+    (λ restart buffer. record {
+      reaches = λ kinds lengths t el ea er.
           rw (e₃, e₂, e₁, ew, ← ea)
-            (byte-written kinds lengths bytes t (g .came restart buffer .reaches kinds lengths t el ea er) has-room has-left (both .0) (eqb-true (getD readings (u + 1) 0) 0 (both .1)) (rw el next))
-      })
-      (omega (arith, g .room, more))
-      (omega (arith, g .left, more))
-      (rw (e₃, e₂, e₁) (simp length-set))
-      refl
+          (byte-written kinds lengths bytes t (g .came restart buffer .reaches kinds lengths t el ea er) has-room has-left (both .0) (eqb-true (getD readings (u + 1) 0) 0 (both .1)) (rw el next));
+    })
+    (omega (arith, g .room, more))
+    (omega (arith, g .left, more))
+    (rw (e₃, e₂, e₁) (simp length-set))
+    refl

@@ -39,7 +39,10 @@ fn ahead(from: u16, len: u16, entries: usize, readings: usize) -> usize
     requires { ⌜ from < len ⌝ }
     ensures { λ r. ⌜ (r + from + 1 ≤ len) × (r ≤ entries) × (r ≤ readings) ⌝ }
 {
-    runs::least(len as usize - 1 - from as usize, runs::least(entries, readings))
+    runs::least(
+        len as usize - 1 - from as usize,
+        runs::least(entries, readings),
+    )
 }
 
 // The places of the transmit FIFO that are free by TXFLR.

@@ -75,14 +75,7 @@ struct Plan {
 }
 
 // Whether the words are there, nothing was aborted, bytes remain, and readings and log are long enough.
-fn is_straight(
-    p: Plan,
-    filled: u16,
-    source: u32,
-    remaining: u16,
-    left: usize,
-    room: usize,
-) -> bool
+fn is_straight(p: Plan, filled: u16, source: u32, remaining: u16, left: usize, room: usize) -> bool
     ensures { λ r. ⌜ (r ≡ true → (p .words ≤ filled) × (source ≡ 0) × (p .count < remaining) × (p .count + 3 ≤ left) × (p .words + p .count + 3 ≤ room)) ⌝ }
 {
     let count = p.count as usize;
@@ -147,15 +140,7 @@ fn one_round(
 {
     let k = entries + 1 + p.words as usize;
     put_read(log, entries, regs::TXFLR, readings[used]);
-    queue_words(
-        queue,
-        p.words,
-        len,
-        send_stop,
-        restart,
-        log,
-        entries + 1,
-    );
+    queue_words(queue, p.words, len, send_stop, restart, log, entries + 1);
     put_read(log, k, regs::RXFLR, readings[used + 1]);
     put_read(log, k + 1, regs::TX_ABRT_SOURCE, readings[used + 2]);
     fetch_bytes(

@@ -57,14 +57,7 @@ fn is_straight(i: u16, space: u16, len: u16, source: u32, again: u16, room: usiz
 }
 
 // The places that a round fills which leads straight on; 0 where it does not.
-fn planned(
-    i: u16,
-    len: u16,
-    readings: &[u32],
-    used: usize,
-    entries: usize,
-    room: usize,
-) -> u16
+fn planned(i: u16, len: u16, readings: &[u32], used: usize, entries: usize, room: usize) -> u16
     requires { ⌜ (used ≤ length (now readings)) × (entries ≤ room) ⌝ }
     ensures { λ r. ⌜ (0 < r → StraightFill (now (readings .entry)) used entries room i len r) ⌝ }
 {

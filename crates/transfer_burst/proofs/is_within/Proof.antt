@@ -17,7 +17,7 @@ returns-3 : tie.Need-returns-3
 returns-3 c = λ z. absurd (false-true z)
 
 returns-4 : tie.Need-returns-4
-returns-4 c = 
+returns-4 c =
     λ z.
     let h : c .before .before .before .args .len ≤ c .before .before .before .args .length - c .before .before .before .args .at = leb-true _ _ z in
     (omega (arith, c .before .before .if1 .left), omega (arith, c .if3 .left, h), omega (arith, c .before .if2 .left))

@@ -4,7 +4,7 @@ use Rattle.transfer_run.proofs.step.Statement.{statement}
 use Rattle.transfer_run.proofs.step.Tie as tie
 use native.Mathlib.Omega.{arith}
 use denote.Ref.{now}
-use Rattle.transfer_run.proofs.Driving.{halted, made, has-more}
+use Rattle.runs.proofs.Reach.{ends, halts, goes, has-more}
 
 burst-from-requires : tie.Need-burst-from-requires
 burst-from-requires c κs = c .before .before .before .before .before .before .before .before .pre
@@ -34,7 +34,7 @@ advance-requires : tie.Need-advance-requires
 advance-requires c κs = search needs
 
 add-t33 : tie.Need-add-t33
-add-t33 c = omega (arith, has-more (now (c .before .before .before .before .before .before .before .before .before .before .before .before .before .before .before .before .before .before .before .before .before .before .before .before .before .before .before .before .args .kinds)) (now (c .before .before .before .before .before .before .before .before .before .before .before .before .before .before .before .before .before .before .before .before .before .before .before .before .before .before .before .before .args .lengths)) (now (c .before .before .before .before .before .before .before .before .before .before .before .before .before .before .before .before .before .before .before .before .before .before .before .before .before .before .before .before .args .bytes)) (rw (← c .before .before .before .before .before .before .before .before .before .before .before .before .before .before .at-point .ensures) at (c .before .before .before .before .before .before .before .before .before .before .before .before .before .before .before .before .before .before .before .burst-from .ensures .reaches (now (c .before .before .before .before .before .before .before .before .before .before .before .before .before .before .before .before .before .before .before .before .before .before .before .before .before .before .before .before .args .kinds)) (now (c .before .before .before .before .before .before .before .before .before .before .before .before .before .before .before .before .before .before .before .before .before .before .before .before .before .before .before .before .args .lengths)))) (c .before .before .before .before .before .before .before .before .before .before .before .before .before .next-access .ensures) (c .before .before .before .before .before .before .before .before .before .before .before .perform .ensures) (c .before .before .before .before .before .before .before .v .given .1), c .before .before .before .before .before .before .before .before .before .before .before .before .before .before .before .before .before .before .before .before .before .before .before .before .before .before .before .before .good .1 .1 .1 .1 .1 .1 .0)
+add-t33 c = omega (arith, has-more (rw (← c .before .before .before .before .before .before .before .before .before .before .before .before .before .before .at-point .ensures) at (c .before .before .before .before .before .before .before .before .before .before .before .before .before .before .before .before .before .before .before .burst-from .ensures .reaches (now (c .before .before .before .before .before .before .before .before .before .before .before .before .before .before .before .before .before .before .before .before .before .before .before .before .before .before .before .before .args .kinds)) (now (c .before .before .before .before .before .before .before .before .before .before .before .before .before .before .before .before .before .before .before .before .before .before .before .before .before .before .before .before .args .lengths)))) (c .before .before .before .before .before .before .before .before .before .before .before .before .before .next-access .ensures) (c .before .before .before .before .before .before .before .before .before .before .before .perform .ensures) (c .before .before .before .before .before .before .before .v .given .1), c .before .before .before .before .before .before .before .before .before .before .before .before .before .before .before .before .before .before .before .before .before .before .before .before .before .before .before .before .good .1 .1 .1 .1 .1 .1 .0)
 
 same-length : tie.Need-same-length
 same-length c = search needs
@@ -43,7 +43,7 @@ same-length-2 : tie.Need-same-length-2
 same-length-2 c = search needs
 
 returns : tie.Need-returns
-returns c = halted (now (c .before .before .before .before .before .before .before .before .before .before .before .before .before .before .before .before .before .before .before .before .before .before .args .kinds)) (now (c .before .before .before .before .before .before .before .before .before .before .before .before .before .before .before .before .before .before .before .before .before .before .args .lengths)) (now (c .before .before .before .before .before .before .before .before .before .before .before .before .before .before .before .before .before .before .before .before .before .before .args .bytes)) (rw (← c .before .before .before .before .before .before .before .before .at-point .ensures) at (c .before .before .before .before .before .before .before .before .before .before .before .before .before .burst-from .ensures .reaches (now (c .before .before .before .before .before .before .before .before .before .before .before .before .before .before .before .before .before .before .before .before .before .before .args .kinds)) (now (c .before .before .before .before .before .before .before .before .before .before .before .before .before .before .before .before .before .before .before .before .before .before .args .lengths)))) (c .before .before .before .before .before .before .before .next-access .ensures) (c .before .before .before .before .before .perform .ensures) (c .before .r .given .1)
+returns c = ends (rw (← c .before .before .before .before .before .before .before .before .at-point .ensures) at (c .before .before .before .before .before .before .before .before .before .before .before .before .before .burst-from .ensures .reaches (now (c .before .before .before .before .before .before .before .before .before .before .before .before .before .before .before .before .before .before .before .before .before .before .args .kinds)) (now (c .before .before .before .before .before .before .before .before .before .before .before .before .before .before .before .before .before .before .before .before .before .before .args .lengths)))) (halts (rw (← c .before .before .before .before .before .before .before .before .at-point .ensures) at (c .before .before .before .before .before .before .before .before .before .before .before .before .before .burst-from .ensures .reaches (now (c .before .before .before .before .before .before .before .before .before .before .before .before .before .before .before .before .before .before .before .before .before .before .args .kinds)) (now (c .before .before .before .before .before .before .before .before .before .before .before .before .before .before .before .before .before .before .before .before .before .before .args .lengths)))) (c .before .before .before .before .before .before .before .next-access .ensures) (c .before .before .before .before .before .perform .ensures) (c .before .r .given .1))
 
 same-length-3 : tie.Need-same-length-3
 same-length-3 c = omega (arith, c .before .before .before .before .before .before .before .before .before .before .before .before .before .before .before .before .before .before .before .burst-from .kept .1 .1 .1 .1 .0, c .before .before .before .before .before .before .before .before .before .before .before .perform .kept .1 .1 .1 .0)
@@ -52,7 +52,7 @@ same-length-4 : tie.Need-same-length-4
 same-length-4 c = search needs
 
 returns-2 : tie.Need-returns-2
-returns-2 c = made (now (c .before .before .before .before .before .before .before .before .before .before .before .before .before .before .before .before .before .before .before .before .before .before .before .before .before .before .before .before .args .kinds)) (now (c .before .before .before .before .before .before .before .before .before .before .before .before .before .before .before .before .before .before .before .before .before .before .before .before .before .before .before .before .args .lengths)) (now (c .before .before .before .before .before .before .before .before .before .before .before .before .before .before .before .before .before .before .before .before .before .before .before .before .before .before .before .before .args .bytes)) (rw (← c .before .before .before .before .before .before .before .before .before .before .before .before .before .before .at-point .ensures) at (c .before .before .before .before .before .before .before .before .before .before .before .before .before .before .before .before .before .before .before .burst-from .ensures .reaches (now (c .before .before .before .before .before .before .before .before .before .before .before .before .before .before .before .before .before .before .before .before .before .before .before .before .before .before .before .before .args .kinds)) (now (c .before .before .before .before .before .before .before .before .before .before .before .before .before .before .before .before .before .before .before .before .before .before .before .before .before .before .before .before .args .lengths)))) (c .before .before .before .before .before .before .before .before .before .before .before .before .before .next-access .ensures) (c .before .before .before .before .before .before .before .before .before .before .before .perform .ensures) (c .before .before .before .before .before .before .before .v .given .1) (c .before .before .before .before .store .ensures) (c .before .before .before .keep .ensures) (c .advance .ensures)
+returns-2 c = let g = (rw (← c .before .before .before .before .before .before .before .before .before .before .before .before .before .before .at-point .ensures) at (c .before .before .before .before .before .before .before .before .before .before .before .before .before .before .before .before .before .before .before .burst-from .ensures .reaches (now (c .before .before .before .before .before .before .before .before .before .before .before .before .before .before .before .before .before .before .before .before .before .before .before .before .before .before .before .before .args .kinds)) (now (c .before .before .before .before .before .before .before .before .before .before .before .before .before .before .before .before .before .before .before .before .before .before .before .before .before .before .before .before .args .lengths)))) in (goes g (c .before .before .before .before .before .before .before .before .before .before .before .before .before .next-access .ensures) (c .before .before .before .before .before .before .before .before .before .before .before .perform .ensures) (c .before .before .before .before .before .before .before .v .given .1) (c .before .before .before .before .store .ensures) (c .before .before .before .keep .ensures) (c .advance .ensures), omega (arith, g .up))
 
 pub step-spec : {M : Type 1} → statement M
 step-spec =

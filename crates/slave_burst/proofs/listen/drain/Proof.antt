@@ -32,10 +32,9 @@ least-requires-2 : tie.Need-least-requires-2 Inv-loop μ-loop
 least-requires-2 c κs = search needs
 
 loop-holds : tie.Need-loop-holds Inv-loop μ-loop
-loop-holds c = 
+loop-holds c =
     let m = c .least2 .ensures in
-    let w = c .before .least .ensures in
-    (
+    let w = c .before .least .ensures in (
       no-turn (drain-none (c .before .before .before .before .before .pre .3) (search needs)) (omega (arith, m .0, c .before .before .before .before .before .pre .0)) (omega (arith, c .before .before .before .before .before .pre .1)) (omega (arith, m .1, w .0, c .before .before .before .before .before .pre .3)) (omega (arith, m .1, w .1, c .before .before .before .before .before .pre .2)) (search needs) (search needs) (search needs) (search needs),
       omega arith,
     )

@@ -58,7 +58,7 @@ returns-5 : tie.Need-returns-5
 returns-5 c = λ z. absurd (omega (arith, z))
 
 returns-6 : tie.Need-returns-6
-returns-6 c = 
+returns-6 c =
     λ some.
     let b = (chunk-bounds (c .before .before .before .before .before .before .before .before .before .args .i) (c .before .before .before .before .before .before .before .before .before .args .count) (omega (arith, c .before .before .before .before .before .before .before .if1 .left))) in
     record {

@@ -1,0 +1,43 @@
+-- The slave comes as far as the burst that begins at its point.
+use Prim.Native.Nat.{ℕ, _/_, _<_, _≤_, _^_}
+use mathlib.Core.List.{List}
+use mathlib.Core.Path.{_≡_, sym, ap, _∙_}
+use lib.ListN.{length}
+use Rattle.slave_state.specs.declared.Pending.the-variants.{None}
+use Rattle.slave_listen.specs.declared.ListenPoint.the-variants.{Status}
+use Rattle.slave_respond.specs.Machine.{response}
+use Rattle.slave_respond.specs.declared.Job.{Job}
+use Rattle.slave_respond.specs.declared.RespondPoint.{RespondPoint}
+use Rattle.slave_respond.specs.declared.Response.{Response}
+use Rattle.slave_steps.specs.Machine.{machine, slave}
+use Rattle.slave_steps.specs.declared.Slave.{Slave}
+use Rattle.slave_steps.specs.declared.Point.{Point}
+use Rattle.slave_steps.specs.declared.Point.the-variants.{Listening, Responding}
+use Rattle.runs.specs.Reaches.{Reaches}
+use Rattle.runs.proofs.Reach.{stays}
+use Rattle.slave_burst.specs.Bursts.{ForAny, Drains, Responds}
+use Rattle.slave_ahead.specs.GoesAhead.{GoesAhead, SendsBytes}
+use Rattle.slave_ahead.specs.declared.Ahead.{Ahead}
+
+at-its-point : (s : Slave) {p : Point} → s .point ≡ p → slave (s .state) (s .length) p ≡ s
+at-its-point s e = ap (λ (p : Point). slave (s .state) (s .length) p) (sym e)
+
+module _ {readings log : List ℕ} {s : Slave} {used entries : ℕ} {r : Ahead} where
+  pub not-ahead : {p : Point} → s .point ≡ p → (r .point ≡ p) × (r .used ≡ used) × (r .entries ≡ entries) → entries ≤ length log / 2 → length log < 2 ^ 64
+      → (bytes buffer : List ℕ) → GoesAhead bytes readings log buffer log buffer s used entries r
+  not-ahead at is room fits bytes buffer = record { reaches = rw (is .0, is .1, is .2, ← at) (stays (machine bytes) readings room fits) }
+
+  pub listen-ahead : {buffer log′ buffer′ : List ℕ} {stat i stat′ i′ e′ u′ : ℕ} → s .point ≡ Listening (Status stat i)
+      → (r .point ≡ Listening (Status stat′ i′)) × (r .used ≡ u′) × (r .entries ≡ e′) → s .state .«pending_byte» ≡ None
+      → Drains (s .length) readings stat i entries used log buffer stat′ i′ e′ u′ log′ buffer′ → ForAny (λ (bytes : List ℕ). GoesAhead bytes readings log buffer log′ buffer′ s used entries r)
+  listen-ahead at is none d = λ bytes. record { reaches = rw (is .0, is .1, is .2) (rw (at-its-point s at) at (d .reaches bytes (s .state) none)) }
+
+  pub respond-ahead : {bytes log′ : List ℕ} {job : Job} {p p′ : RespondPoint} {e′ u′ : ℕ} → s .point ≡ Responding (response job p)
+      → (r .point ≡ Responding (response job p′)) × (r .used ≡ u′) × (r .entries ≡ e′) → SendsBytes job
+      → Responds (s .length) bytes readings p entries used log p′ e′ u′ log′ → ForAny (λ (buffer : List ℕ). GoesAhead bytes readings log buffer log′ buffer s used entries r)
+  respond-ahead {bytes} {job = job} at is own d = λ buffer. record {
+    reaches = rw (is .0, is .1, is .2) (rw (at-its-point s at) at (d .reaches (s .state) job buffer (own .counts (s .length)) (own .sends bytes)));
+  }
+
+pub responding-at : {x : Point} {r : Response} {p : RespondPoint} → x ≡ Responding r → r .point ≡ p → x ≡ Responding (response (r .job) p)
+responding-at {r = r} e q = e ∙ ap (λ (y : RespondPoint). Responding (response (r .job) y)) q

@@ -1,0 +1,2 @@
+-- From a burst to the slave.
+pub mod Coming

@@ -1,2 +1,0 @@
--- The run of a transfer, between two of its states.
-pub mod Driving
