@@ -21,7 +21,7 @@ use Rattle.slave_state.specs.declared.SlaveState.{SlaveState}
 use Rattle.slave_state.specs.declared.Pending.{Pending}
 use Rattle.slave_state.specs.declared.Pending.the-variants.{None, Byte}
 use Rattle.slave_listen.specs.declared.ListenPoint.the-variants as L
-use Rattle.slave_state.proofs.Small.{by-test, or-true, none-pending}
+use Rattle.slave_state.proofs.Basics.{state, by-test, or-true, none-pending}
 
 -- the code's mask is what the setters make of 0
 mask-is : N.Write INTR-MASK 0x1a24 ≡ N.Write INTR-MASK listen-mask
@@ -92,9 +92,6 @@ module _ (length : ℕ) where
       (λ q. rw q (asks-agree M m₂ (keeps-agree M m₂ (marks-water m₂ stat offset (with-pending (Byte (dat w)) me) b t n (λ _. omega arith) (λ m₃ l₃. back m₃ (omega arith))))))
       (λ q. rw (q, more) (stores-agree M m₂ (drains places m₂ stat (offset + 1) me (set b offset (dat w)) t n none (omega arith) (λ m₃ l₃. back m₃ (omega arith))))))))
       (λ q. rw q (marks-water m₁ stat offset me b t n (none-pending none) (λ m₂ l₂. back m₂ (omega arith))))))
-
-  abbrev state : Pending → ℕ → Bool → SlaveState
-  state p address g = record { «pending_byte» = p; address = address; «general_call» = g }
 
   -- after the level is read, with a byte pending and with none
   levels : (p : Pending) (address : ℕ) (g : Bool) (m stat len v : ℕ) (b : List ℕ) (t : ℕ → Behaviour SlaveState Answer) (n : ℕ) → (is-some p ≡ true → len < length) → Back m t

@@ -30,7 +30,7 @@ use Rattle.slave_respond.specs.declared.Job.{Job}
 use Rattle.slave_respond.specs.declared.Job.the-variants.{Respond, RespondThenFill, Fill, FillAfter}
 use Rattle.slave_respond.specs.declared.RespondPoint.the-variants as P
 use Rattle.slave_respond.specs.declared.Response.{Response}
-use Rattle.slave_state.proofs.Small.{by-test}
+use Rattle.slave_state.proofs.Basics.{by-test}
 
 -- the code's mask is what the setters make of 0
 mask-is : N.Write INTR-MASK 0xd0 ≡ N.Write INTR-MASK respond-mask

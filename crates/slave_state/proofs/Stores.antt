@@ -27,10 +27,7 @@ use Rattle.slave_state.specs.Counts.{bytes-read, pending-bytes, Says, Tr
 use Rattle.slave_state.specs.declared.Pending.{Pending}
 use Rattle.slave_state.specs.declared.Pending.the-variants.{None, Byte}
 use Rattle.slave_state.specs.declared.SlaveState.{SlaveState}
-use Rattle.slave_state.proofs.Small.{by-test, or-true, none-pending}
-
-abbrev Out : Behaviour SlaveState Answer → ℕ → List ℕ → List ℕ → SlaveState → Outcome SlaveState Reply
-Out = outcome Answered LogFull OutOfReadings
+use Rattle.slave_state.proofs.Basics.{Out, state, by-test, or-true, none-pending}
 
 -- with len bytes stored at the front of b and the bytes w waiting to be stored, o ends with n bytes stored
 record From (n len : ℕ) (b w : List ℕ) (o : Outcome SlaveState Reply) : Type 0 where
@@ -208,9 +205,6 @@ module _ (L : ℕ) where
       (λ q. rw q (asks-keeps (keeps-keeps (writes-keeps (settles stat offset (with-pending (Byte (dat v)) me) b t n (record { size = size; most = most; place = λ _. omega arith }) back)))))
       (λ q. rw q (stores-keeps (omega (arith, size)) (drains places stat (offset + 1) me (set b offset (dat v)) t n none (length-set b offset (dat v) ∙ size) (omega arith) (omega arith) back))))))
       (λ q. rw (q, ← w) (writes-keeps (settles stat offset me b t n (record { size = size; most = most; place = none-pending none }) back))))
-
-  abbrev state : Pending → ℕ → Bool → SlaveState
-  state p address g = record { «pending_byte» = p; address = address; «general_call» = g }
 
   levels : (p : Pending) (address : ℕ) (g : Bool) (stat len v : ℕ) (b : List ℕ) (t : ℕ → Behaviour SlaveState Answer) (n : ℕ) → At len (state p address g) b → Back t
       → Keeps len b (pending-bytes p) (state p address g) (listen-drain L len v n (λ len. listen-command L stat len n (after n t)))

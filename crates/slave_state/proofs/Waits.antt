@@ -19,13 +19,10 @@ use Rattle.regs.specs.declared.answers.ReadStatus.the-variants.{Done, NeedMoreB
 use Rattle.regs.specs.declared.answers.Refusal.{Refusal}
 use Rattle.regs.specs.declared.answers.Refusal.the-variants.{Abort}
 use Rattle.regs.specs.declared.answers.Reply.{Reply}
-use Rattle.regs.specs.declared.answers.Reply.the-variants.{Answered, LogFull, OutOfReadings}
+use Rattle.regs.specs.declared.answers.Reply.the-variants.{LogFull, OutOfReadings}
 use Rattle.slave_state.specs.I2cSlave.{Driver, FIFO-SIZE, Responded-to, abort-reason, send-chunk, respond-chunk, respond-abort, respond-poll, respond-mask}
 use Rattle.slave_state.specs.declared.SlaveState.{SlaveState}
-use Rattle.slave_state.proofs.Small.{by-test}
-
-abbrev pub Out : Behaviour SlaveState Answer → ℕ → List ℕ → List ℕ → SlaveState → Outcome SlaveState Reply
-Out = outcome Answered LogFull OutOfReadings
+use Rattle.slave_state.proofs.Basics.{Out, by-test}
 
 abbrev pub Claim : Type 1
 Claim = ℕ → List ℕ → List ℕ → Outcome SlaveState Reply → Type 0
