@@ -167,8 +167,8 @@ module _ (L : ℕ) where
   abbrev after : ℕ → (ℕ → Behaviour SlaveState Answer) → Listened → Behaviour SlaveState Answer
   after n t r = polled (put INTR-MASK listen-mask) r n (λ w. by-turn w t (λ r. ends (answer Heard r)))
 
-  sleeps : (len : ℕ) (me : SlaveState) (b : List ℕ) (t : ℕ → Behaviour SlaveState Answer) (n : ℕ) → At len me b → Back t → Keeps len b (waiting me) me (after n t (pending len))
-  sleeps len me b t n a back = writes-keeps (marks-keeps (back len me b a))
+  pends : (len : ℕ) (me : SlaveState) (b : List ℕ) (t : ℕ → Behaviour SlaveState Answer) (n : ℕ) → At len me b → Back t → Keeps len b (waiting me) me (after n t (pending len))
+  pends len me b t n a back = writes-keeps (marks-keeps (back len me b a))
 
   settles : (stat len : ℕ) (me : SlaveState) (b : List ℕ) (t : ℕ → Behaviour SlaveState Answer) (n : ℕ) → At len me b → Back t → Keeps len b (waiting me) me (listen-command L stat len n (after n t))
   settles stat len me b t n a back =
@@ -186,8 +186,8 @@ module _ (L : ℕ) where
       (λ q. rw q (by-test (rd-req stat)
       (λ q. rw q (reads-keeps refl (λ v. reads-keeps refl (λ v. reads-keeps refl (λ v. heard-keeps me l (λ n h. absurd h))))))
       (λ q. rw q (by-test (stop-det stat)
-      (λ q. rw q (reads-keeps refl (λ v. sleeps len me b t n a back)))
-      (λ q. rw q (sleeps len me b t n a back))))))))))))
+      (λ q. rw q (reads-keeps refl (λ v. pends len me b t n a back)))
+      (λ q. rw q (pends len me b t n a back))))))))))))
 
   -- the drain, with `places` places from the offset on
   drains : (places stat offset : ℕ) (me : SlaveState) (b : List ℕ) (t : ℕ → Behaviour SlaveState Answer) (n : ℕ) → me .«pending_byte» ≡ None → length b ≡ L → offset ≤ L → L - offset ≡ places → Back t
@@ -236,7 +236,7 @@ calls me b n =
     (λ q. rw q refused-keeps)
     (λ q. rw q (asks-keeps (go (me .«pending_byte») (me .address) (me .«general_call»))))
   where
-    go : (p : Pending) (address : ℕ) (g : Bool) → Keeps 0 b (pending-bytes p) (state 0 p address g)
+    go : (p : Pending) (address : ℕ) (g : Bool) → Keeps 0 b (pending-bytes p) (state p address g)
         ((when (is-some p && eqb (length b) 0) (exit (Refused NoPlaceForPending)) >> (listen (length b) >>= (λ r. return (answer Heard r)))) n ends)
     go None address g = starts (length b) _ b n (record { size = refl; most = omega arith; place = λ e. none-pending refl e })
     go (Byte c) address g =
