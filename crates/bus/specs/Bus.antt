@@ -36,10 +36,6 @@ same Reading Reading = true
 abbrev pub direction-of : ℕ → Direction
 direction-of w = if cmd w then Reading else Writing
 
-abbrev pub is-idle : Bus → Bool
-is-idle Idle = true
-is-idle (Busy d) = false
-
 -- a START or a RESTART, and the address byte
 abbrev pub addressed : Sign → ℕ → Direction → List Sign
 addressed sign address d = sign ∷ address-byte (address * 2 + direction-bit d) ∷ []

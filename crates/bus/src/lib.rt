@@ -8,14 +8,14 @@ use regs::fields::has_stop;
 use regs::fields::is_read;
 ghost use mathlib.Core.Path.{_≡_};
 ghost use mathlib.Core.Bool.{_&&_, not};
-ghost use Prim.Native.Nat.{_+_, _*_, _/_, _<_, _≤_, _^_};
+ghost use Prim.Native.Nat.{_+_, _*_, _/_, _<_, _^_};
 ghost use mathlib.Core.List.{[], _∷_};
 ghost use lib.ListN.{length, getD, set};
 ghost use lib.Seq.{sets};
 ghost use Rattle.regs.specs.Fields.{restart, address-field};
 ghost use Rattle.regs.specs.Log.{entry, decode};
 ghost use Rattle.regs.specs.Registers.{TAR};
-ghost use Rattle.bus.specs.Bus.{direction-of, direction-bit, same, is-idle, opening-of, opening, byte-sign, closing, after, signs-of, written-to, bus-sequence, sign-word, sign-words};
+ghost use Rattle.bus.specs.Bus.{direction-of, direction-bit, same, opening-of, opening, byte-sign, closing, after, signs-of, written-to, bus-sequence, sign-word, sign-words};
 ghost use Rattle.bus.specs.Placed.{written-by, made, moved};
 
 // The direction of a byte on the bus.
@@ -170,15 +170,6 @@ impl Bus {
         ensures { λ r. ⌜ r ≡ Bus.Idle ⌝ }
     {
         Bus::Idle
-    }
-
-    pub fn is_idle(self) -> bool
-        ensures { λ r. ⌜ r ≡ is-idle self ⌝ }
-    {
-        match self {
-            Bus::Idle => true,
-            Bus::Busy(_) => false,
-        }
     }
 
     // What a word makes before its byte: START on an idle bus; RESTART where the direction changes or the word asks for it.

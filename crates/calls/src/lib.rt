@@ -20,9 +20,6 @@ pub struct Done {
     pub end: usize,
 }
 
-// The log's words: two for each of 8,192 entries.
-pub const LOG_WORDS: usize = 16384;
-
 // The largest number of readings that a call may have.
 pub const MOST_READINGS: usize = 8192;
 

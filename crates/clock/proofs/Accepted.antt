@@ -1,22 +1,22 @@
 -- Exactly the settings that document 01's table does not refuse are accepted.
-use Prim.Native.Nat.{ℕ, zero, suc, _+_, _-_, _*_, _/_, _%_, _^_, _<_, _≤_}
+use Prim.Native.Nat.{ℕ, suc, _-_, _<_, _≤_}
 use native.Mathlib.Omega.{arith}
-use mathlib.Core.Bool.{Bool, true, false, _||_}
+use mathlib.Core.Bool.{true, false}
 use mathlib.Core.List.{List, [], _∷_}
 use mathlib.Core.Logic.{_⊎_, inl, inr, ⊎-elim, _↔_, _≢_}
-use mathlib.Core.Path.{_≡_, refl, ap, sym, _∙_}
-use lib.Dec.{eqb, ltb, eqb→eq}
+use mathlib.Core.Path.{_≡_, refl, ap}
+use lib.Dec.{eqb, ltb}
 use borrow.Author.Tests.{ltb-true, ltb-false, eqb-true, eqb-false}
-use Rattle.regs.specs.Program.{if_then_else_, Outcome, outcome, behaviour}
+use Rattle.regs.specs.Program.{Outcome, outcome, behaviour}
 use Rattle.regs.specs.Registers.{ENABLE, FS-SCL-HCNT, FS-SCL-LCNT, FS-SPKLEN, SDA-HOLD}
 use Rattle.regs.specs.Fields.{set-ic-sda-tx-hold}
 use Rattle.regs.specs.Answers.{number}
-use Rattle.regs.specs.declared.answers.Answer.the-variants.{Accepted, Refused}
+use Rattle.regs.specs.declared.answers.Answer.the-variants.{Accepted}
 use Rattle.regs.specs.declared.answers.Reply.{Reply}
 use Rattle.regs.specs.declared.answers.Reply.the-variants.{Answered, LogFull, OutOfReadings}
 use Rattle.regs.specs.declared.access.Entry.{Entry}
 use Rattle.regs.specs.declared.access.Entry.the-variants.{Read, Write}
-use Rattle.clock.specs.SetConfig.{set-config, period, lcnt-of, hcnt-of, hold-below-1-mhz, hold-at-1-mhz, spklen, as-u16}
+use Rattle.clock.specs.SetConfig.{set-config, hold-below-1-mhz, hold-at-1-mhz, spklen, as-u16}
 use Rattle.clock.specs.Datasheet.{hcnt, lcnt, hold, NotRefused}
 use Rattle.clock.proofs.Agrees.{by-test, small}
 

@@ -1,21 +1,18 @@
 -- The machine does what `set-config` does.
-use Prim.Native.Nat.{ℕ, _+_, _-_, _%_, _^_, _<_, _≤_}
+use Prim.Native.Nat.{ℕ, _+_, _-_, _<_, _≤_}
 use native.Mathlib.Omega.{arith}
-use mathlib.Core.Bool.{Bool, true, false, _||_}
+use mathlib.Core.Bool.{Bool, true, false}
 use mathlib.Core.List.{List}
 use mathlib.Core.Path.{_≡_, refl}
 use lib.Dec.{eqb, ltb}
 use borrow.Author.Tests.{ltb-true, ltb-false, lt-ltb, le-ltb}
-use Rattle.regs.specs.Program.{if_then_else_, ends}
+use Rattle.regs.specs.Program.{ends}
 use Rattle.regs.proofs.Refine.{Agree, ends-agree, reads-agree, writes-agree}
-use Rattle.regs.specs.declared.answers.Answer.the-variants.{Accepted, Refused}
-use Rattle.regs.specs.declared.answers.Refusal.the-variants as R
-use Rattle.clock.specs.SetConfig.{set-config, set-counts, set-registers, sda-tx-hold-count, period, lcnt-of, hcnt-of, hold-below-1-mhz, hold-at-1-mhz, spklen, as-u16}
+use Rattle.clock.specs.SetConfig.{set-config, set-counts, set-registers, hold-below-1-mhz, hold-at-1-mhz, spklen, as-u16}
 use Rattle.clock.specs.Datasheet.{hcnt, lcnt, hold}
-use Rattle.clock.specs.Machine.{machine, counts, fits, reaches, holds, setting, start-of, after-disable}
-use Rattle.clock.specs.declared.Counts.{Counts}
+use Rattle.clock.specs.Machine.{machine, fits, reaches, holds, start-of, after-disable}
 use Rattle.clock.specs.declared.Setting.{Setting}
-use Rattle.clock.specs.declared.Setting.the-variants.{Legal, Illegal}
+use Rattle.clock.specs.declared.Setting.the-variants.{Legal}
 
 -- by cases of a test, with what it said
 pub by-test : {P : Type 0} (q : Bool) → (q ≡ true → P) → (q ≡ false → P) → P

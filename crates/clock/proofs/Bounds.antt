@@ -1,6 +1,5 @@
 -- Clock setup is bounded by its readings and its log alone.
 use Prim.Native.Nat.{ℕ}
-use mathlib.Core.List.{List, []}
 use Rattle.regs.specs.Bounds.{Bounded}
 use Rattle.regs.proofs.Bounded.{bounded-by}
 use Rattle.clock.specs.SetConfig.{set-config}

@@ -3,7 +3,7 @@ use Prim.Native.Nat.{ℕ, _+_, _-_, _/_, _%_, _<_, _≤_}
 use mathlib.Core.Path.{_≡_}
 use lib.Dec.{ltb}
 use Rattle.regs.specs.Program.{if_then_else_}
-use Rattle.clock.specs.SetConfig.{period, lcnt-of, hcnt-of, hold-below-1-mhz, hold-at-1-mhz, spklen}
+use Rattle.clock.specs.SetConfig.{period, lcnt-of, hcnt-of, hold-below-1-mhz, hold-at-1-mhz}
 
 -- the counts of a setting
 abbrev pub hcnt : ℕ → ℕ → ℕ

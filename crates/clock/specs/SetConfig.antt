@@ -1,8 +1,8 @@
 -- `set_config` of src/i2c.rs, with the clock as an argument, and the refusals that document 01 adds.
 use Prim.Native.Nat.{ℕ, _+_, _*_, _-_, _/_, _%_, _^_}
-use mathlib.Core.Bool.{Bool, _||_}
+use mathlib.Core.Bool.{_||_}
 use lib.Dec.{eqb, ltb}
-use Rattle.regs.specs.Program.{if_then_else_, Program, _>>=_, _>>_, return, exit, put, modify, when, skip}
+use Rattle.regs.specs.Program.{if_then_else_, Program, _>>=_, _>>_, return, exit, put, modify, when}
 use Rattle.regs.specs.Registers.{ENABLE, FS-SCL-HCNT, FS-SCL-LCNT, FS-SPKLEN, SDA-HOLD}
 use Rattle.regs.specs.Fields.{set-ic-sda-tx-hold}
 use Rattle.regs.specs.declared.answers.Answer.{Answer}

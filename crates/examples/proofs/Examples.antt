@@ -1,4 +1,4 @@
--- THE THEOREM: every row of document 01's examples holds. Each is computed.
+-- Every row of document 01's examples holds: each is computed.
 use mathlib.Core.Path.{refl}
 use Rattle.regs.specs.Fields.{set-field}
 use Rattle.regs.specs.Program.{outcome, turns, rounds}

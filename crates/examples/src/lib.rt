@@ -1,4 +1,1 @@
 // Document 01's proved examples, (a) to (j): specs/Rows.antt has the rows, proofs/Examples.antt the theorem.
-
-// How many examples there are.
-pub const EXAMPLES: u8 = 10;

@@ -1,4 +1,4 @@
--- A run with the state that it leaves, handed on as numbers. Assumes nothing.
+-- A run with the state that it leaves, handed on as numbers.
 use mathlib.Core.Path.{_≡_, sym, subst}
 use Rattle.regs.specs.declared.access.Ran.{Ran}
 use Rattle.slave_state.specs.declared.SlaveState.{SlaveState}

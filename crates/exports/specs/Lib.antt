@@ -1,1 +1,2 @@
+-- What the exported calls return.
 pub mod Report

@@ -1,23 +1,22 @@
 -- What the functions share: `setup`, `read_and_clear_abort_reason`, the end of a poll in `wait_on`, and `wait_stop_det`.
-use Prim.Native.Nat.{ℕ, zero, suc, _+_, _-_, _%_, _^_, _<_, _≤_}
+use Prim.Native.Nat.{ℕ, _+_, _%_, _^_, _<_, _≤_}
 use native.Mathlib.Omega.{arith}
-use native.Mathlib.Nat.{le-refl}
-use mathlib.Core.Bool.{Bool, true, false, not, _&&_, _||_}
+use mathlib.Core.Bool.{Bool, true, false, _&&_, true≢false}
 use mathlib.Core.List.{List}
-use mathlib.Core.Path.{_≡_, refl}
+use mathlib.Core.Path.{_≡_, refl, sym}
 use lib.Dec.{eqb, ltb}
-use Rattle.regs.specs.Program.{if_then_else_, Behaviour, ends, reads, writes, marks, Result, ok, err, Turn, by-turn, again, done, rounds, Poll, pending, ready, polled, wait-on, return, modify}
+use Rattle.regs.specs.Program.{if_then_else_, Behaviour, ends, reads, writes, marks, ok, err, by-turn, Poll, pending, ready, polled, wait-on, return, modify}
 use Rattle.regs.specs.Registers.{INTR-MASK, RAW-INTR-STAT, CLR-STOP-DET}
 use Rattle.regs.specs.Fields.{stop-det, set-m-stop-det, set-m-tx-abrt}
 use Rattle.regs.specs.Machine.{Machine}
 use Rattle.regs.specs.declared.answers.AbortReason.{AbortReason}
 use Rattle.regs.specs.declared.answers.Answer.{Answer}
-use Rattle.regs.specs.declared.answers.Answer.the-variants.{Accepted, Refused}
+use Rattle.regs.specs.declared.answers.Answer.the-variants.{Refused}
 use Rattle.regs.specs.declared.answers.Refusal.the-variants as X
 use Rattle.regs.proofs.Refine.{Agree, ends-agree, reads-agree, writes-agree, marks-agree, loop-agree}
-use Rattle.master.specs.Driver.{Driver, Tried, reason-of, setup, read-and-clear-abort-reason, try}
+use Rattle.master.specs.Driver.{Driver, Tried, reason-of, setup, read-and-clear-abort-reason}
 use Rattle.master.specs.Async.{both, stop-poll, wait-stop-det}
-use Rattle.transfer.specs.Points.{with-point, has-failed}
+use Rattle.transfer.specs.Points.{with-point}
 use Rattle.transfer.specs.Machine.{machine, next-at, next-setup, next-abort, next-wait, next-stop, store-at, step-of, step-setup, step-abort, step-wait, step-stop, returned, stop-returned, wait-stop, try-step, mask-for, poll-point, moved-to, begun}
 use Rattle.transfer.specs.declared.Transfer.{Transfer}
 use Rattle.transfer.specs.declared.Tried as T
@@ -29,7 +28,7 @@ use Rattle.transfer.specs.declared.Poll as P
 use Rattle.transfer.specs.declared.Poll.the-variants as O
 use Rattle.transfer.specs.declared.WaitPoint.the-variants as W
 use Rattle.transfer.specs.declared.StopPoint.the-variants as S
-use Rattle.transfer.specs.declared.SetupPoint.the-variants.{Disable, Target, Enable}
+use Rattle.transfer.specs.declared.SetupPoint.the-variants.{Disable, Enable}
 use Rattle.transfer.specs.declared.Point.{Point}
 use Rattle.transfer.specs.declared.Point.the-variants.{Setup, Abort, Wait, Stop, Finished}
 
@@ -37,6 +36,15 @@ use Rattle.transfer.specs.declared.Point.the-variants.{Setup, Abort, Wait, Stop
 pub by-test : {P : Type 0} (q : Bool) → (q ≡ true → P) → (q ≡ false → P) → P
 by-test true f g = f refl
 by-test false f g = g refl
+
+-- what a test of two says of each
+pub first : (a b : Bool) → (a && b) ≡ true → a ≡ true
+first true b e = refl
+first false b e = absurd (true≢false (sym e))
+
+pub second : (a b : Bool) → (a && b) ≡ true → b ≡ true
+second true b e = e
+second false b e = absurd (true≢false (sym e))
 
 -- a place within the limits does not wrap
 pub sum-is : (a n : ℕ) → a + n ≤ 4096 → (a + n) % 2 ^ 64 ≡ a + n

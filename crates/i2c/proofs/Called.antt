@@ -1,13 +1,13 @@
 -- What the calls leave: the outcome of the whole Rust call, where it is within the limits, and of number 20, where it is not.
 use Prim.Native.Nat.{ℕ, _/_, _≤_}
 use native.Mathlib.Omega.{arith}
-use mathlib.Core.Bool.{Bool, true, false, not, _&&_, true≢false}
+use mathlib.Core.Bool.{Bool, true, false, _&&_}
 use mathlib.Core.List.{List, [], _∷_}
-use mathlib.Core.Path.{_≡_, refl, sym}
+use mathlib.Core.Path.{_≡_, refl}
 use lib.Dec.{eqb, leb}
 use lib.ListN.{length}
 use borrow.Author.Tests.{leb-true, eqb-true}
-use Rattle.regs.specs.Program.{ends, outcome}
+use Rattle.regs.specs.Program.{outcome}
 use Rattle.regs.specs.Log.{expected, Leaves, LeavesBuffer}
 use Rattle.regs.specs.Machine.{final, ran}
 use Rattle.regs.specs.declared.answers.Answer.{Answer}
@@ -22,6 +22,7 @@ use Rattle.transfer.specs.declared.Transfer.{Transfer}
 use Rattle.transfer.specs.declared.Mode.{Mode}
 use Rattle.transfer.specs.declared.Point.{Point}
 use Rattle.i2c.specs.Limits.{refused-over}
+use Rattle.i2c.proofs.Basics.{first, second}
 use Rattle.i2c.proofs.Listed.{Left}
 use Rattle.i2c.proofs.Transfers.{read-transfer, write-transfer, write-read-transfer, transaction-transfer}
 
@@ -37,14 +38,6 @@ module _ (limits : Bool) (p : Driver Answer) (readings before b₀ : List ℕ) {
 
 fits-is : (n : ℕ) → fits n ≡ true → n ≤ 4096
 fits-is n q = leb-true n 4096 q
-
-pub first : (a b : Bool) → (a && b) ≡ true → a ≡ true
-first true b e = refl
-first false b e = absurd (true≢false (sym e))
-
-pub second : (a b : Bool) → (a && b) ≡ true → b ≡ true
-second true b e = e
-second false b e = absurd (true≢false (sym e))
 
 -- what the test of the limits says of kinds and lengths
 pub all-left : (mode : Mode) (address : ℕ) (kinds lengths bytes : List ℕ) (room : ℕ) → lists kinds lengths (length bytes) room ≡ true → (p : Point)

@@ -1,26 +1,25 @@
 -- The operations that kinds and lengths list: a transaction's loop, for both modes together.
-use Prim.Native.Nat.{ℕ, zero, suc, _+_, _-_, _%_, _^_, _<_, _≤_}
+use Prim.Native.Nat.{ℕ, suc, _+_, _%_, _^_, _<_, _≤_}
 use native.Mathlib.Omega.{arith}
 use native.Mathlib.Numerals.{add-one}
-use mathlib.Core.Bool.{Bool, true, false, _&&_, _||_, true≢false}
+use mathlib.Core.Bool.{Bool, true, false, _||_, true≢false}
 use mathlib.Core.List.{List, [], _∷_}
 use mathlib.Core.Path.{_≡_, refl, sym, ap, _∙_, subst}
-use lib.Dec.{eqb, ltb}
+use lib.Dec.{eqb}
 use lib.ListN.{length, getD, take, drop, length-drop}
 use lib.Seq.{drop-cons, drop-drop, length-take-le}
-use borrow.Author.Tests.{lt-ltb, le-ltb, eq-eqb, ne-eqb, eqb-true, eqb-false}
-use Rattle.regs.specs.Program.{if_then_else_, Behaviour, ends}
-use Rattle.regs.specs.declared.answers.Answer.{Answer}
+use borrow.Author.Tests.{lt-ltb, le-ltb, eq-eqb, ne-eqb, eqb-true}
+use Rattle.regs.specs.Program.{ends}
 use Rattle.regs.specs.declared.answers.Answer.the-variants.{Accepted}
-use Rattle.regs.proofs.Refine.{Agree, ends-agree}
+use Rattle.regs.proofs.Refine.{ends-agree}
 use Rattle.master.specs.Async.{is-empty}
 use Rattle.master.specs.Operations.{listed, total, known, READ, WRITE}
 use Rattle.master.specs.Transfer.{each-operation}
 use Rattle.transfer.specs.Points.{with-point, mode-of}
-use Rattle.transfer.specs.Machine.{machine, next-at, opened, opened-write, opened-read, begun, sum-of}
+use Rattle.transfer.specs.Machine.{next-at, opened, opened-write, opened-read, begun}
 use Rattle.transfer.specs.declared.Transfer.{Transfer}
 use Rattle.transfer.specs.declared.Point.{Point}
-use Rattle.i2c.proofs.Basics.{by-test, sum-is, M, Agrees}
+use Rattle.i2c.proofs.Basics.{by-test, first, second, sum-is, M, Agrees}
 use Rattle.i2c.proofs.Bytes.{Held}
 use Rattle.i2c.proofs.Operations.{read-agrees, write-agrees}
 
@@ -57,14 +56,6 @@ pub record Left (kinds lengths bytes : List ℕ) (t : Transfer) (ks ls : List �
   pub bytes-fit : length bytes ≤ 4096
   pub no-restart : t .restart ≡ false
 
-both-known : (a b : Bool) → (a && b) ≡ true → b ≡ true
-both-known true b e = e
-both-known false b e = absurd (true≢false (sym e))
-
-first-known : (a b : Bool) → (a && b) ≡ true → a ≡ true
-first-known true b e = refl
-first-known false b e = absurd (true≢false (sym e))
-
 -- a kind that is known and no write is a read
 is-read : (kind : ℕ) → (eqb kind READ || eqb kind WRITE) ≡ true → eqb kind WRITE ≡ false → eqb kind READ ≡ true
 is-read kind e q = by-test (eqb kind READ) (λ z. z) (λ z. absurd (true≢false (sym (rw (z, q) at e))))
@@ -85,7 +76,7 @@ module _ (kinds lengths bytes : List ℕ) where
           kinds-left = front kinds (t .begun) kind ks (left .kinds-left) .1 .1;
           lengths-left = front lengths (t .begun) len ls (left .lengths-left) .1 .1;
           as-many = omega (arith, left .as-many);
-          all-known = both-known (eqb kind READ || eqb kind WRITE) (known ks) (left .all-known);
+          all-known = second (eqb kind READ || eqb kind WRITE) (known ks) (left .all-known);
           reads-fit = r;
           writes-fit = rw (sum-is (t .writes) len (omega arith)) (omega arith);
           bytes-fit = f;
@@ -99,12 +90,12 @@ module _ (kinds lengths bytes : List ℕ) where
   unfolding opened-read total known
   read-left t kind len ks ls last p left q =
       let w : t .writes + total WRITE ks ls ≤ length bytes = rw q at (left .writes-fit) in
-      let r : t .reads + (len + total READ ks ls) ≤ 4096 = rw (is-read kind (first-known (eqb kind READ || eqb kind WRITE) (known ks) (left .all-known)) q) at (left .reads-fit) in (
+      let r : t .reads + (len + total READ ks ls) ≤ 4096 = rw (is-read kind (first (eqb kind READ || eqb kind WRITE) (known ks) (left .all-known)) q) at (left .reads-fit) in (
         record {
           kinds-left = front kinds (t .begun) kind ks (left .kinds-left) .1 .1;
           lengths-left = front lengths (t .begun) len ls (left .lengths-left) .1 .1;
           as-many = omega (arith, left .as-many);
-          all-known = both-known (eqb kind READ || eqb kind WRITE) (known ks) (left .all-known);
+          all-known = second (eqb kind READ || eqb kind WRITE) (known ks) (left .all-known);
           reads-fit = rw (sum-is (t .reads) len (omega arith)) (omega arith);
           writes-fit = w;
           bytes-fit = left .bytes-fit;

@@ -1,28 +1,23 @@
 -- The operations of a transfer, one after the other, for both modes together.
-use Prim.Native.Nat.{ℕ, zero, suc, _+_, _-_, _%_, _^_, _<_, _≤_}
+use Prim.Native.Nat.{ℕ, _+_, _≤_}
 use native.Mathlib.Omega.{arith}
-use mathlib.Core.Bool.{Bool, true, false, not, _&&_, _||_, true≢false}
+use mathlib.Core.Bool.{Bool, true, false}
 use mathlib.Core.List.{List, [], _∷_}
-use mathlib.Core.Path.{_≡_, refl, sym, ap, _∙_, subst}
-use lib.Dec.{eqb, ltb}
-use lib.ListN.{length, getD, take, drop, length-drop}
-use lib.Seq.{drop-cons, drop-drop, length-take-le}
-use borrow.Author.Tests.{lt-ltb, le-ltb, eq-eqb, ne-eqb, eqb-true, eqb-false}
-use Rattle.regs.specs.Program.{if_then_else_, Behaviour, ends}
+use mathlib.Core.Path.{_≡_, refl}
+use lib.Dec.{eqb}
+use borrow.Author.Tests.{eq-eqb, ne-eqb, eqb-false}
+use Rattle.regs.specs.Program.{Behaviour}
 use Rattle.regs.specs.declared.answers.Answer.{Answer}
-use Rattle.regs.specs.declared.answers.Answer.the-variants.{Accepted, Refused}
-use Rattle.regs.proofs.Refine.{Agree, ends-agree}
+use Rattle.regs.proofs.Refine.{ends-agree}
 use Rattle.master.specs.Blocking.{read-blocking-internal, write-blocking-internal}
-use Rattle.master.specs.Async.{is-empty, read-async-internal, write-async-internal}
-use Rattle.master.specs.Operations.{Operation, writes, reads}
-use Rattle.master.specs.Transfer.{read-internal, write-internal, each-operation}
+use Rattle.master.specs.Async.{read-async-internal}
+use Rattle.master.specs.Transfer.{read-internal, write-internal}
 use Rattle.transfer.specs.Points.{with-point, mode-of}
-use Rattle.transfer.specs.Machine.{machine, next-at, write-point, read-point, some-read, opened, opened-write, opened-read, begun, sum-of}
+use Rattle.transfer.specs.Machine.{next-at, write-point, read-point, some-read}
 use Rattle.transfer.specs.declared.Transfer.{Transfer}
 use Rattle.transfer.specs.declared.Mode.{Mode}
 use Rattle.transfer.specs.declared.Mode.the-variants.{Blocking, Async}
-use Rattle.transfer.specs.declared.Point.{Point}
-use Rattle.i2c.proofs.Basics.{by-test, sum-is, M, Agrees}
+use Rattle.i2c.proofs.Basics.{by-test, M, Agrees}
 use Rattle.i2c.proofs.Bytes.{Held}
 use Rattle.i2c.proofs.EndAsync.{Good}
 use Rattle.i2c.proofs.ReadsBlocking.{read-blocking-agrees}

@@ -1,21 +1,20 @@
--- fn read_blocking_internal.
+-- The machine's points of a blocking read do what `read_blocking_internal` does.
 use Prim.Native.Nat.{ℕ, zero, suc, _+_, _-_, _<_, _≤_}
 use native.Mathlib.Omega.{arith}
-use mathlib.Core.Bool.{Bool, true, false}
 use mathlib.Core.List.{List}
 use mathlib.Core.Path.{_≡_, refl, subst}
 use lib.Dec.{eqb, ltb}
 use lib.ListN.{set}
 use borrow.Author.Tests.{lt-ltb, le-ltb, ne-eqb}
-use Rattle.regs.specs.Program.{if_then_else_, Behaviour, reads, stores, _>>=_, return, skip}
+use Rattle.regs.specs.Program.{Behaviour, reads, stores, _>>=_, return}
 use Rattle.regs.specs.Registers.{DATA-CMD}
 use Rattle.regs.specs.Fields.{level, dat}
 use Rattle.regs.specs.declared.answers.Answer.{Answer}
-use Rattle.regs.proofs.Refine.{Agree, ends-agree, reads-agree, writes-agree, stores-agree, loop-agree}
+use Rattle.regs.proofs.Refine.{ends-agree, reads-agree, writes-agree, stores-agree, loop-agree}
 use Rattle.master.specs.Driver.{tx-fifo-full, tx-fifo-capacity, rx-fifo-len, while-test, read-and-clear-abort-reason, try}
 use Rattle.master.specs.Blocking.{read-blocking-bytes, read-blocking-internal}
 use Rattle.transfer.specs.Points.{with-point}
-use Rattle.transfer.specs.Machine.{machine, next-at, next-read, read-word, store-at, store-read, step-of, step-read, room-step, level-step, places, returned, after-byte, moved-to, begun}
+use Rattle.transfer.specs.Machine.{next-at, next-read, read-word, store-at, store-read, step-of, step-read, room-step, level-step, places, returned, after-byte, moved-to, begun}
 use Rattle.transfer.specs.declared.Transfer.{Transfer}
 use Rattle.transfer.specs.declared.ReadPoint.the-variants as R
 use Rattle.transfer.specs.declared.Caller.the-variants as C

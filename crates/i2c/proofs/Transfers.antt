@@ -1,24 +1,23 @@
 -- The eight transfers: from the first access to the answer, for both modes together.
-use Prim.Native.Nat.{ℕ, zero, suc, _+_, _<_, _≤_}
+use Prim.Native.Nat.{ℕ, suc, _<_, _≤_}
 use native.Mathlib.Omega.{arith}
-use native.Mathlib.Nat.{le-refl}
-use mathlib.Core.Bool.{Bool, true, false, not, _&&_, true≢false}
+use mathlib.Core.Bool.{Bool, true, false}
 use mathlib.Core.List.{List, [], _∷_}
 use mathlib.Core.Path.{_≡_, refl, sym, _∙_}
-use lib.Dec.{eqb, ltb, leb}
-use lib.ListN.{length, take, drop}
+use lib.Dec.{ltb}
+use lib.ListN.{length}
 use lib.Seq.{take-length}
 use borrow.Author.Tests.{ne-eqb}
-use Rattle.regs.specs.Program.{if_then_else_, Behaviour, ends}
+use Rattle.regs.specs.Program.{Behaviour, ends}
 use Rattle.regs.specs.declared.answers.Answer.{Answer}
 use Rattle.regs.specs.declared.answers.Answer.the-variants.{Accepted}
-use Rattle.regs.proofs.Refine.{Agree, ends-agree}
+use Rattle.regs.proofs.Refine.{ends-agree}
 use Rattle.master.specs.Driver.{setup}
 use Rattle.master.specs.Async.{is-empty}
-use Rattle.master.specs.Operations.{read, write, write-read, transaction, listed, total, known, lists}
+use Rattle.master.specs.Operations.{read, write, write-read, transaction, listed}
 use Rattle.master.specs.Transfer.{blocking-read, read-async, blocking-write, write-async, blocking-write-read, write-read-async, blocking-transaction, transaction-async, each-operation, read-internal, write-internal, transfer}
 use Rattle.transfer.specs.Points.{with-point, mode-of}
-use Rattle.transfer.specs.Machine.{machine, next-at, first-point, tested-point, started, opened, opened-write, opened-read, begun}
+use Rattle.transfer.specs.Machine.{next-at, first-point, tested-point, started, opened, opened-write, opened-read, begun}
 use Rattle.transfer.specs.declared.Transfer.{Transfer}
 use Rattle.transfer.specs.declared.Mode.{Mode}
 use Rattle.transfer.specs.declared.Mode.the-variants.{Blocking, Async}

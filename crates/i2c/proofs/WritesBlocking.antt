@@ -1,22 +1,21 @@
--- fn write_blocking_internal.
-use Prim.Native.Nat.{ℕ, zero, suc, _+_, _-_, _<_, _≤_}
+-- The machine's points of a blocking write do what `write_blocking_internal` does.
+use Prim.Native.Nat.{ℕ, suc, _+_, _-_, _<_, _≤_}
 use native.Mathlib.Omega.{arith}
 use mathlib.Core.Bool.{Bool, true, false, not, _&&_, _||_, true≢false}
 use mathlib.Core.List.{List, [], _∷_}
 use mathlib.Core.Path.{_≡_, refl, sym}
-use lib.Dec.{eqb, ltb}
+use lib.Dec.{eqb}
 use lib.ListN.{length}
 use borrow.Author.Tests.{lt-ltb, le-ltb, ne-eqb}
-use Rattle.regs.specs.Program.{if_then_else_, Behaviour, reads, when, while, skip, ok, err, get, _>>_}
+use Rattle.regs.specs.Program.{Behaviour, reads, when, while, skip, ok, get, _>>_}
 use Rattle.regs.specs.Registers.{RAW-INTR-STAT, CLR-STOP-DET}
 use Rattle.regs.specs.Fields.{tx-empty, stop-det}
-use Rattle.regs.specs.declared.answers.AbortReason.{AbortReason}
 use Rattle.regs.specs.declared.answers.Answer.{Answer}
-use Rattle.regs.proofs.Refine.{Agree, ends-agree, reads-agree, writes-agree, while-agree}
+use Rattle.regs.proofs.Refine.{reads-agree, writes-agree, while-agree}
 use Rattle.master.specs.Driver.{Tried, is-err, try}
 use Rattle.master.specs.Blocking.{write-blocking-bytes, write-blocking-internal}
 use Rattle.transfer.specs.Points.{with-point}
-use Rattle.transfer.specs.Machine.{machine, next-at, next-write, next-stop, write-word, store-at, step-of, step-write, step-stop, closes, returned, after-byte, try-step, moved-to, begun}
+use Rattle.transfer.specs.Machine.{next-at, next-write, next-stop, write-word, store-at, step-of, step-write, step-stop, closes, returned, try-step, moved-to, begun}
 use Rattle.transfer.specs.declared.Transfer.{Transfer}
 use Rattle.transfer.specs.declared.Tried as T
 use Rattle.transfer.specs.declared.Tried.the-variants.{Fine, Failed}
@@ -25,8 +24,8 @@ use Rattle.transfer.specs.declared.StopPoint.the-variants as S
 use Rattle.transfer.specs.declared.Caller.the-variants as C
 use Rattle.transfer.specs.declared.Point.{Point}
 use Rattle.transfer.specs.declared.Point.the-variants.{WriteBlocking, Stop}
-use Rattle.i2c.proofs.Basics.{by-test, as-tried, M, Agrees, fails, reason-agrees}
-use Rattle.i2c.proofs.Bytes.{Held, held-head, held-end}
+use Rattle.i2c.proofs.Basics.{by-test, M, Agrees, fails, reason-agrees}
+use Rattle.i2c.proofs.Bytes.{Held, held-head}
 
 -- a negated test
 not-true : (q : Bool) → not q ≡ true → q ≡ false

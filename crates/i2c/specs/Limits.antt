@@ -1,6 +1,6 @@
 -- The limits as the code tests them.
 use Prim.Native.Nat.{ℕ, _+_, _*_, _≤_}
-use mathlib.Core.Bool.{Bool, true, false, _&&_}
+use mathlib.Core.Bool.{Bool, false, _&&_}
 use mathlib.Core.List.{List, [], _∷_}
 use lib.Dec.{eqb}
 use Rattle.regs.specs.Program.{if_then_else_}

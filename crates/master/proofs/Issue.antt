@@ -12,7 +12,7 @@ use Rattle.regs.specs.Registers.{DATA-CMD}
 use Rattle.regs.specs.Fields.{cmd, command-word, level}
 use Rattle.regs.specs.Log.{Each}
 use Rattle.regs.specs.Program as P
-use Rattle.regs.specs.Program.{if_then_else_, _>>=_, _>>_, done, by-turn, rounds, pending, ready, polled, ok, err}
+use Rattle.regs.specs.Program.{if_then_else_, _>>=_, done, by-turn, rounds, pending, ready, polled, ok, err}
 use Rattle.master.specs.Driver.{Driver, Tried, try, rx-fifo-len}
 use Rattle.master.specs.Blocking.{read-blocking-bytes, read-blocking-internal, write-blocking-bytes, write-blocking-internal}
 use Rattle.master.specs.Async.{is-empty, queue-batch, batch-come, batch-poll, stop-poll, wait-stop-det, space-poll, fetch-bytes, read-round, read-async-internal, Filled, break-xmit, full, fill, go-on, xmit, write-async-internal}

@@ -2,7 +2,6 @@
 use Prim.Native.Nat.{ℕ, zero, suc, _+_, _-_}
 use mathlib.Core.Bool.{Bool, true, false}
 use mathlib.Core.List.{List, [], _∷_}
-use Rattle.regs.specs.declared.answers.Answer.{Answer}
 use Rattle.regs.specs.Program.{ok, err}
 use Rattle.regs.specs.Log.{Legal, Each, expected}
 use Rattle.regs.proofs.Legal.{LegalP, legal, legal-expected}
@@ -106,7 +105,7 @@ operations-legal mode offset [] = search legal
 operations-legal mode offset (reads len ∷ os) = let ih = operations-legal mode (offset + len) os in search (legal, read-legal)
 operations-legal mode offset (writes bs ∷ os) = let ih = operations-legal mode offset os in search (legal, write-legal)
 
-pub transfer-legal : (mode : Mode) (address : ℕ) (x : Transfer ℕ) → LegalP (transfer mode address x)
+transfer-legal : (mode : Mode) (address : ℕ) (x : Transfer ℕ) → LegalP (transfer mode address x)
 unfolding blocking-read blocking-write blocking-write-read blocking-transaction read-async write-async write-read-async transaction-async
 transfer-legal blocking address (read len) = let internal = read-legal blocking in search (legal, setup-legal)
 transfer-legal blocking address (write bs) = let internal = write-legal blocking in search (legal, setup-legal)
@@ -119,11 +118,11 @@ transfer-legal async address (write-read bs len) =
     let first = write-legal async in let second = read-legal async in search (legal, setup-legal)
 transfer-legal async address (transaction os) = search (legal, setup-legal, operations-legal)
 
-within-legal : (limits : Bool) (p : Driver Answer) → LegalP p → LegalP (within limits p)
-within-legal limits p h = search legal
+-- each call is a transfer within limits
+pub within-legal : (limits : Bool) (mode : Mode) (address : ℕ) (x : Transfer ℕ) → LegalP (within limits (transfer mode address x))
+within-legal limits mode address x = search (legal, transfer-legal)
 
--- of every call: each is a transfer within limits
 pub every-access-legal : (mode : Mode) (address : ℕ) (x : Transfer ℕ) (limits : Bool) (log readings buffer : List ℕ)
     → Each Legal (expected (within limits (transfer mode address x)) log readings buffer tt .log)
 every-access-legal mode address x limits log readings buffer =
-    legal-expected (within limits (transfer mode address x)) (within-legal limits (transfer mode address x) (transfer-legal mode address x)) log readings buffer tt
+    legal-expected (within limits (transfer mode address x)) (within-legal limits mode address x) log readings buffer tt

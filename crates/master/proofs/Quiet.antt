@@ -1,8 +1,8 @@
 -- Parts of the driver that leave TAR and DATA_CMD alone: what is due after such a part was due before it.
-use Prim.Native.Nat.{ℕ, zero, suc, _-_}
+use Prim.Native.Nat.{ℕ, zero, suc}
 use mathlib.Core.Path.{_≡_}
 use mathlib.Core.Bool.{Bool, true, false}
-use mathlib.Core.List.{List, []}
+use mathlib.Core.List.{List}
 use lib.Dec.{eqb}
 use Rattle.regs.specs.Registers.{DATA-CMD}
 use Rattle.regs.specs.Program.{if_then_else_, when, turns, while, Turn, again, done, by-turn, rounds, loop, Poll, pending, ready, polled, wait-on, ok, err}

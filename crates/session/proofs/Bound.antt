@@ -20,7 +20,6 @@ use Rattle.lines.specs.declared.Line.the-variants as Line
 use Rattle.session.specs.Session.{Next, going, malformed, Session, read-taken, write-taken, complete, next, is-open, onward, line-after, printed-from, printed, fresh}
 use Rattle.session.specs.Session as S
 use Rattle.session.specs.Bounded.{Kept, kept, large, bounded, with-operation, add, Held, idle, within, operation, kept-text, kept-slave, next-held, holds-call}
-use Rattle.session.specs.declared.Wants.{Wants}
 use Rattle.session.specs.declared.Wants.the-variants.{Nothing}
 use Rattle.session.specs.declared.Took.{Took}
 use Rattle.session.specs.declared.Took.the-variants.{Now, Never}

@@ -1,5 +1,5 @@
 -- What each frame leads to, from the session that the open call and the lent slices are.
-use Prim.Native.Nat.{ℕ, _+_, _/_, _<_}
+use Prim.Native.Nat.{ℕ, _/_, _<_}
 use native.Mathlib.Omega.{arith}
 use native.Mathlib.Numerals.{add-one}
 use mathlib.Core.Bool.{Bool, true, false}
@@ -9,7 +9,6 @@ use lib.Dec.{ltb}
 use lib.ListN.{length, take, set, length-set}
 use lib.Seq.{take-suc-set, length-take-le}
 use borrow.Author.Tests.{ltb-true}
-use Rattle.regs.specs.Program.{if_then_else_}
 use Rattle.master.specs.Operations.{Operation, writes, reads}
 use Rattle.slave_state.specs.declared.SlaveState.{SlaveState}
 use Rattle.frames_text.specs.Text.{these, none, bytes-of}
@@ -33,7 +32,6 @@ use Rattle.session.specs.declared.Took.{Took}
 use Rattle.session.specs.declared.Took.the-variants.{Now, Never}
 use Rattle.session.specs.declared.Counts.{Counts}
 use Rattle.session.specs.declared.Open.{Open}
-use Rattle.session.specs.declared.Entered.{Entered}
 use Rattle.session.specs.declared.Entered.the-variants.{Going, Malformed}
 use Rattle.session.proofs.Bound.{bounded-more}
 use Rattle.session.proofs.Keeps.{stored, stored-lent, added-within, added-readings, over-within, kept-read, kept-write, kept-wide}

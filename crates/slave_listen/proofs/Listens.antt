@@ -21,7 +21,7 @@ use Rattle.slave_state.specs.declared.SlaveState.{SlaveState}
 use Rattle.slave_state.specs.declared.Pending.{Pending}
 use Rattle.slave_state.specs.declared.Pending.the-variants.{None, Byte}
 use Rattle.slave_listen.specs.declared.ListenPoint.the-variants as L
-use Rattle.slave_state.proofs.Small.{by-test, or-true, none-pending}
+use Rattle.slave_state.proofs.Basics.{state, by-test, or-true, none-pending}
 
 -- the code's mask is what the setters make of 0
 mask-is : N.Write INTR-MASK 0x1a24 ≡ N.Write INTR-MASK listen-mask
@@ -49,9 +49,9 @@ module _ (length : ℕ) where
   after n t r = polled (put INTR-MASK listen-mask) r n (λ w. by-turn w t (λ r. ends (answer Heard r)))
 
   -- a poll that is not done
-  sleeps : (m len : ℕ) (me : SlaveState) (b : List ℕ) (t : ℕ → Behaviour SlaveState Answer) (n : ℕ) → Holds len me → Back m t
+  pends : (m len : ℕ) (me : SlaveState) (b : List ℕ) (t : ℕ → Behaviour SlaveState Answer) (n : ℕ) → Holds len me → Back m t
       → Agree M m (listener me length (L.IntrMask len)) b b me (after n t (pending len))
-  sleeps m len me b t n holds back = writes-agree M m mask-is (λ m₁ l₁. marks-agree M m₁ refl (λ m₂ l₂. back m₂ (omega arith) len me b holds))
+  pends m len me b t n holds back = writes-agree M m mask-is (λ m₁ l₁. marks-agree M m₁ refl (λ m₂ l₂. back m₂ (omega arith) len me b holds))
 
   -- what a poll says, with the FIFO drained
   settles : (m stat len : ℕ) (me : SlaveState) (b : List ℕ) (t : ℕ → Behaviour SlaveState Answer) (n : ℕ) → Holds len me → Back m t
@@ -68,20 +68,20 @@ module _ (length : ℕ) where
       (λ q. rw q (by-test (rd-req stat)
       (λ q. rw q (reads-agree M m refl (λ m₁ l₁ v. reads-agree M m₁ refl (λ m₂ l₂ v. reads-agree M m₂ refl (λ m₃ l₃ v. ends-agree M m₃ refl)))))
       (λ q. rw q (by-test (stop-det stat)
-      (λ q. rw q (reads-agree M m refl (λ m₁ l₁ v. sleeps m₁ len me b t n holds (λ m₂ l₂. back m₂ (omega arith)))))
-      (λ q. rw q (sleeps m len me b t n holds back))))))))))))
+      (λ q. rw q (reads-agree M m refl (λ m₁ l₁ v. pends m₁ len me b t n holds (λ m₂ l₂. back m₂ (omega arith)))))
+      (λ q. rw q (pends m len me b t n holds back))))))))))))
 
   -- the drain is over
-  marks-water : (m stat len : ℕ) (me : SlaveState) (b : List ℕ) (t : ℕ → Behaviour SlaveState Answer) (n : ℕ) → Holds len me → Back m t
+  sets-threshold : (m stat len : ℕ) (me : SlaveState) (b : List ℕ) (t : ℕ → Behaviour SlaveState Answer) (n : ℕ) → Holds len me → Back m t
       → Agree M m (listener me length (L.Watermark stat len)) b b me (writes RX-TL 11 (listen-command length stat len n (after n t)))
-  marks-water m stat len me b t n holds back = writes-agree M m refl (λ m₁ l₁. settles m₁ stat len me b t n holds (λ m₂ l₂. back m₂ (omega arith)))
+  sets-threshold m stat len me b t n holds back = writes-agree M m refl (λ m₁ l₁. settles m₁ stat len me b t n holds (λ m₂ l₂. back m₂ (omega arith)))
 
   -- the drain, with `places` places from the offset on
   drains : (places m stat offset : ℕ) (me : SlaveState) (b : List ℕ) (t : ℕ → Behaviour SlaveState Answer) (n : ℕ) → me .«pending_byte» ≡ None → length - offset ≡ places → Back m t
       → Agree M m (listener me length (drain-from length stat offset)) b b me (drain-places places offset n (λ len. writes RX-TL 11 (listen-command length stat len n (after n t))))
   unfolding drain-places
   drains zero m stat offset me b t n none e back =
-      rw (le-ltb offset length (omega arith)) (marks-water m stat offset me b t n (none-pending none) back)
+      rw (le-ltb offset length (omega arith)) (sets-threshold m stat offset me b t n (none-pending none) back)
   drains (suc places) m stat offset me b t n none e back =
       let more : ltb offset length ≡ true = lt-ltb offset length (omega arith) in
       rw more
@@ -89,12 +89,9 @@ module _ (length : ℕ) where
       by-test (rfne status)
       (λ q. rw q (reads-agree M m₁ refl (λ m₂ l₂ w.
       by-test (is-next offset w)
-      (λ q. rw q (asks-agree M m₂ (keeps-agree M m₂ (marks-water m₂ stat offset (with-pending (Byte (dat w)) me) b t n (λ _. omega arith) (λ m₃ l₃. back m₃ (omega arith))))))
+      (λ q. rw q (asks-agree M m₂ (keeps-agree M m₂ (sets-threshold m₂ stat offset (with-pending (Byte (dat w)) me) b t n (λ _. omega arith) (λ m₃ l₃. back m₃ (omega arith))))))
       (λ q. rw (q, more) (stores-agree M m₂ (drains places m₂ stat (offset + 1) me (set b offset (dat w)) t n none (omega arith) (λ m₃ l₃. back m₃ (omega arith))))))))
-      (λ q. rw q (marks-water m₁ stat offset me b t n (none-pending none) (λ m₂ l₂. back m₂ (omega arith))))))
-
-  abbrev state : Pending → ℕ → Bool → SlaveState
-  state p address g = record { «pending_byte» = p; address = address; «general_call» = g }
+      (λ q. rw q (sets-threshold m₁ stat offset me b t n (none-pending none) (λ m₂ l₂. back m₂ (omega arith))))))
 
   -- after the level is read, with a byte pending and with none
   levels : (p : Pending) (address : ℕ) (g : Bool) (m stat len v : ℕ) (b : List ℕ) (t : ℕ → Behaviour SlaveState Answer) (n : ℕ) → (is-some p ≡ true → len < length) → Back m t

@@ -30,7 +30,7 @@ use Rattle.slave_respond.specs.declared.Job.{Job}
 use Rattle.slave_respond.specs.declared.Job.the-variants.{Respond, RespondThenFill, Fill, FillAfter}
 use Rattle.slave_respond.specs.declared.RespondPoint.the-variants as P
 use Rattle.slave_respond.specs.declared.Response.{Response}
-use Rattle.slave_state.proofs.Small.{by-test}
+use Rattle.slave_state.proofs.Basics.{by-test}
 
 -- the code's mask is what the setters make of 0
 mask-is : N.Write INTR-MASK 0xd0 ≡ N.Write INTR-MASK respond-mask
@@ -83,9 +83,9 @@ module _ (bytes : List ℕ) where
     abbrev after : (List ℕ → Behaviour SlaveState Answer) → Responded-to → Behaviour SlaveState Answer
     after t r = polled (put INTR-MASK respond-mask) r n (λ w. by-turn w t K)
 
-    sleeps : (m i : ℕ) (rest b : List ℕ) (t : List ℕ → Behaviour SlaveState Answer) → Holds rest i → Back m t
+    pends : (m i : ℕ) (rest b : List ℕ) (t : List ℕ → Behaviour SlaveState Answer) → Holds rest i → Back m t
         → Agree M m (responder me size (response job (P.IntrMask i))) b b me (after t (pending rest))
-    sleeps m i rest b t holds back = writes-agree M m mask-is (λ m₁ l₁. marks-agree M m₁ refl (λ m₂ l₂. back m₂ (omega arith) rest i b holds))
+    pends m i rest b t holds back = writes-agree M m mask-is (λ m₁ l₁. marks-agree M m₁ refl (λ m₂ l₂. back m₂ (omega arith) rest i b holds))
 
     -- byte i of a chunk that ends at e, with `more` bytes after it
     sends : (more m i e : ℕ) (chunk b : List ℕ) (t : Behaviour SlaveState Answer) → chunk ≡ take (suc more) (drop i src) → i + suc more ≡ e → e ≤ length src
@@ -122,14 +122,14 @@ module _ (bytes : List ℕ) where
         let more : suc (length src - i - 1) ≡ length src - i = omega arith in
         rw (q, q₂, some)
         (sends (length src - i - 1) m i (length src) _ b _ (rw (holds, more, take-all 16 (drop i src) (omega arith), take-all (length src - i) (drop i src) (omega arith))) (omega arith) (omega arith)
-        (λ m₁ l₁. sleeps m₁ (length src) _ b t
+        (λ m₁ l₁. pends m₁ (length src) _ b t
         (rw (holds, drop-drop 16 i src, drop-of-length-le src {i = i + 16} (omega arith), drop-of-length-le src {i = length src} (omega arith)))
         (λ m₂ l₂. back m₂ (omega arith)))))
         (λ q₂.
         let s : CHUNK ≤ length src - i = ltb-false (length src - i) CHUNK q₂ in
         rw (q, q₂, some)
         (sends 15 m i (i + CHUNK) _ b _ (ap (take 16) holds) refl (omega arith)
-        (λ m₁ l₁. sleeps m₁ (i + CHUNK) _ b t (rw (holds, drop-drop 16 i src)) (λ m₂ l₂. back m₂ (omega arith))))))
+        (λ m₁ l₁. pends m₁ (i + CHUNK) _ b t (rw (holds, drop-drop 16 i src)) (λ m₂ l₂. back m₂ (omega arith))))))
         (λ q.
         let g : length src ≤ i = ltb-false i (length src) q in
         let none : is-empty rest ≡ true = rw (holds, drop-of-length-le src g) in
@@ -138,7 +138,7 @@ module _ (bytes : List ℕ) where
         (λ q₁. rw q₁ (reads-agree M m refl (λ m₁ l₁ v. outs m₁ (omega arith) Done b)))
         (λ q₁. rw q₁ (by-test (rd-req stat && tx-empty stat)
         (λ q₂. rw q₂ (outs m (omega arith) NeedMoreBytes b))
-        (λ q₂. rw q₂ (sleeps m i rest b t holds back)))))))
+        (λ q₂. rw q₂ (pends m i rest b t holds back)))))))
 
     aborts : (m : ℕ) (a : AbortReason) (b : List ℕ) (p : Driver Responded-to) (t : List ℕ → Behaviour SlaveState Answer) → Outs m
         → Agree M m (responder me size (response job (after-reason a))) b b me (respond-abort (err a) p n (after t))

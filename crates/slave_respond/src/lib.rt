@@ -152,7 +152,7 @@ fn more(job: Job) -> Response
     }
 }
 
-fn is_hungry(stat: u32) -> bool
+fn needs_more_bytes(stat: u32) -> bool
     ensures { λ r. ⌜ r ≡ rd-req stat && tx-empty stat ⌝ }
 {
     fields::has_rd_req(stat) & fields::has_tx_empty(stat)
@@ -168,7 +168,7 @@ fn feed(job: Job, stat: u32, at: u16, count: u16) -> Response
     if fields::has_rx_done(stat) {
         return on(job, RespondPoint::ClrRxDone);
     }
-    if is_hungry(stat) {
+    if needs_more_bytes(stat) {
         return more(job);
     }
     on(job, RespondPoint::IntrMask(at))

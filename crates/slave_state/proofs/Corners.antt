@@ -194,9 +194,9 @@ unfolding outcome respond-to-read-call respond-to-read rounds
 other-abort = refl
 
 -- RD_REQ with TX_EMPTY and no byte left
-hungry : run (respond-to-read-call (5 ∷ [])) 20 (0 ∷ 0 ∷ 0x30 ∷ []) [] None .answer ≡ Answered (Responded NeedMoreBytes)
+needs-more : run (respond-to-read-call (5 ∷ [])) 20 (0 ∷ 0 ∷ 0x30 ∷ []) [] None .answer ≡ Answered (Responded NeedMoreBytes)
 unfolding outcome respond-to-read-call respond-to-read send-chunk rounds
-hungry = refl
+needs-more = refl
 
 -- the bytes, then fill bytes until the controller stops; its leftover count is then no part of the answer
 and-filled : run (respond-and-fill-call (5 ∷ []) 9) 60 (0 ∷ 0 ∷ 0x30 ∷ 0x40 ∷ 0x2800000 ∷ 0 ∷ 0 ∷ []) [] None

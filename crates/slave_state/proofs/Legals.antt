@@ -20,7 +20,7 @@ reset-legal : (address : ℕ) (g : Bool) → LegalP (reset address g)
 unfolding reset
 reset-legal address g = search legal depth 20
 
-reset-call-legal : (address : ℕ) (g : Bool) → LegalP (reset-call address g)
+pub reset-call-legal : (address : ℕ) (g : Bool) → LegalP (reset-call address g)
 unfolding reset-call
 reset-call-legal address g = search (legal, reset-legal) depth 20
 
@@ -45,7 +45,7 @@ listen-legal : (length : ℕ) → LegalP (listen length)
 unfolding listen
 listen-legal length n k h = writes-legal tt (wait-on-legal ℕ _ 0 (listen-poll length) (put INTR-MASK listen-mask) (listen-poll-legal length) (λ n k h. writes-legal tt (h tt)) n k h)
 
-listen-call-legal : (length : ℕ) → LegalP (listen-call length)
+pub listen-call-legal : (length : ℕ) → LegalP (listen-call length)
 unfolding listen-call
 listen-call-legal length = search (legal, listen-legal) depth 20
 
@@ -86,15 +86,15 @@ respond-and-fill-legal : (buffer : List ℕ) (fill : ℕ) → LegalP (respond-an
 unfolding respond-and-fill
 respond-and-fill-legal buffer fill n k h = respond-to-read-legal buffer n _ (λ r. and-fill-legal fill r n k h)
 
-respond-to-read-call-legal : (buffer : List ℕ) → LegalP (respond-to-read-call buffer)
+pub respond-to-read-call-legal : (buffer : List ℕ) → LegalP (respond-to-read-call buffer)
 unfolding respond-to-read-call
 respond-to-read-call-legal buffer = search (legal, respond-to-read-legal) depth 20
 
-respond-till-stop-call-legal : (fill : ℕ) → LegalP (respond-till-stop-call fill)
+pub respond-till-stop-call-legal : (fill : ℕ) → LegalP (respond-till-stop-call fill)
 unfolding respond-till-stop-call
 respond-till-stop-call-legal fill = search (legal, respond-till-stop-legal) depth 20
 
-respond-and-fill-call-legal : (buffer : List ℕ) (fill : ℕ) → LegalP (respond-and-fill-call buffer fill)
+pub respond-and-fill-call-legal : (buffer : List ℕ) (fill : ℕ) → LegalP (respond-and-fill-call buffer fill)
 unfolding respond-and-fill-call
 respond-and-fill-call-legal buffer fill = search (legal, respond-and-fill-legal) depth 20
 

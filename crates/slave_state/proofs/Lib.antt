@@ -1,5 +1,5 @@
 -- What holds of the definitions.
-pub mod Small
+pub mod Basics
 pub mod Corners
 pub mod Stores
 pub mod Waits

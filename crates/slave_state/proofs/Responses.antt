@@ -13,7 +13,7 @@ use Rattle.regs.specs.declared.answers.Refusal.{Refusal}
 use Rattle.regs.specs.declared.answers.Reply.the-variants.{Answered}
 use Rattle.slave_state.specs.I2cSlave.{FIFO-SIZE, abort-reason, respond-to-read, till-stop, respond-till-stop, respond-and-fill, respond-to-read-call, respond-till-stop-call, respond-and-fill-call}
 use Rattle.slave_state.specs.declared.SlaveState.{SlaveState}
-use Rattle.slave_state.proofs.Small.{by-test}
+use Rattle.slave_state.proofs.Basics.{by-test}
 use Rattle.slave_state.proofs.Waits.{Claim, Kept, All, cut-all, waits}
 
 -- the answers that P holds of: a status with all bytes sent, LeftoverBytes of the source that was read last, a refusal

@@ -27,10 +27,7 @@ use Rattle.slave_state.specs.Counts.{bytes-read, pending-bytes, Says, Tr
 use Rattle.slave_state.specs.declared.Pending.{Pending}
 use Rattle.slave_state.specs.declared.Pending.the-variants.{None, Byte}
 use Rattle.slave_state.specs.declared.SlaveState.{SlaveState}
-use Rattle.slave_state.proofs.Small.{by-test, or-true, none-pending}
-
-abbrev Out : Behaviour SlaveState Answer → ℕ → List ℕ → List ℕ → SlaveState → Outcome SlaveState Reply
-Out = outcome Answered LogFull OutOfReadings
+use Rattle.slave_state.proofs.Basics.{Out, state, by-test, or-true, none-pending}
 
 -- with len bytes stored at the front of b and the bytes w waiting to be stored, o ends with n bytes stored
 record From (n len : ℕ) (b w : List ℕ) (o : Outcome SlaveState Reply) : Type 0 where
@@ -170,8 +167,8 @@ module _ (L : ℕ) where
   abbrev after : ℕ → (ℕ → Behaviour SlaveState Answer) → Listened → Behaviour SlaveState Answer
   after n t r = polled (put INTR-MASK listen-mask) r n (λ w. by-turn w t (λ r. ends (answer Heard r)))
 
-  sleeps : (len : ℕ) (me : SlaveState) (b : List ℕ) (t : ℕ → Behaviour SlaveState Answer) (n : ℕ) → At len me b → Back t → Keeps len b (waiting me) me (after n t (pending len))
-  sleeps len me b t n a back = writes-keeps (marks-keeps (back len me b a))
+  pends : (len : ℕ) (me : SlaveState) (b : List ℕ) (t : ℕ → Behaviour SlaveState Answer) (n : ℕ) → At len me b → Back t → Keeps len b (waiting me) me (after n t (pending len))
+  pends len me b t n a back = writes-keeps (marks-keeps (back len me b a))
 
   settles : (stat len : ℕ) (me : SlaveState) (b : List ℕ) (t : ℕ → Behaviour SlaveState Answer) (n : ℕ) → At len me b → Back t → Keeps len b (waiting me) me (listen-command L stat len n (after n t))
   settles stat len me b t n a back =
@@ -189,8 +186,8 @@ module _ (L : ℕ) where
       (λ q. rw q (by-test (rd-req stat)
       (λ q. rw q (reads-keeps refl (λ v. reads-keeps refl (λ v. reads-keeps refl (λ v. heard-keeps me l (λ n h. absurd h))))))
       (λ q. rw q (by-test (stop-det stat)
-      (λ q. rw q (reads-keeps refl (λ v. sleeps len me b t n a back)))
-      (λ q. rw q (sleeps len me b t n a back))))))))))))
+      (λ q. rw q (reads-keeps refl (λ v. pends len me b t n a back)))
+      (λ q. rw q (pends len me b t n a back))))))))))))
 
   -- the drain, with `places` places from the offset on
   drains : (places stat offset : ℕ) (me : SlaveState) (b : List ℕ) (t : ℕ → Behaviour SlaveState Answer) (n : ℕ) → me .«pending_byte» ≡ None → length b ≡ L → offset ≤ L → L - offset ≡ places → Back t
@@ -208,9 +205,6 @@ module _ (L : ℕ) where
       (λ q. rw q (asks-keeps (keeps-keeps (writes-keeps (settles stat offset (with-pending (Byte (dat v)) me) b t n (record { size = size; most = most; place = λ _. omega arith }) back)))))
       (λ q. rw q (stores-keeps (omega (arith, size)) (drains places stat (offset + 1) me (set b offset (dat v)) t n none (length-set b offset (dat v) ∙ size) (omega arith) (omega arith) back))))))
       (λ q. rw (q, ← w) (writes-keeps (settles stat offset me b t n (record { size = size; most = most; place = none-pending none }) back))))
-
-  abbrev state : Pending → ℕ → Bool → SlaveState
-  state p address g = record { «pending_byte» = p; address = address; «general_call» = g }
 
   levels : (p : Pending) (address : ℕ) (g : Bool) (stat len v : ℕ) (b : List ℕ) (t : ℕ → Behaviour SlaveState Answer) (n : ℕ) → At len (state p address g) b → Back t
       → Keeps len b (pending-bytes p) (state p address g) (listen-drain L len v n (λ len. listen-command L stat len n (after n t)))
@@ -242,7 +236,7 @@ calls me b n =
     (λ q. rw q refused-keeps)
     (λ q. rw q (asks-keeps (go (me .«pending_byte») (me .address) (me .«general_call»))))
   where
-    go : (p : Pending) (address : ℕ) (g : Bool) → Keeps 0 b (pending-bytes p) (state 0 p address g)
+    go : (p : Pending) (address : ℕ) (g : Bool) → Keeps 0 b (pending-bytes p) (state p address g)
         ((when (is-some p && eqb (length b) 0) (exit (Refused NoPlaceForPending)) >> (listen (length b) >>= (λ r. return (answer Heard r)))) n ends)
     go None address g = starts (length b) _ b n (record { size = refl; most = omega arith; place = λ e. none-pending refl e })
     go (Byte c) address g =

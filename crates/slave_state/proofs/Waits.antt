@@ -19,13 +19,10 @@ use Rattle.regs.specs.declared.answers.ReadStatus.the-variants.{Done, NeedMoreB
 use Rattle.regs.specs.declared.answers.Refusal.{Refusal}
 use Rattle.regs.specs.declared.answers.Refusal.the-variants.{Abort}
 use Rattle.regs.specs.declared.answers.Reply.{Reply}
-use Rattle.regs.specs.declared.answers.Reply.the-variants.{Answered, LogFull, OutOfReadings}
+use Rattle.regs.specs.declared.answers.Reply.the-variants.{LogFull, OutOfReadings}
 use Rattle.slave_state.specs.I2cSlave.{Driver, FIFO-SIZE, Responded-to, abort-reason, send-chunk, respond-chunk, respond-abort, respond-poll, respond-mask}
 use Rattle.slave_state.specs.declared.SlaveState.{SlaveState}
-use Rattle.slave_state.proofs.Small.{by-test}
-
-abbrev pub Out : Behaviour SlaveState Answer → ℕ → List ℕ → List ℕ → SlaveState → Outcome SlaveState Reply
-Out = outcome Answered LogFull OutOfReadings
+use Rattle.slave_state.proofs.Basics.{Out, by-test}
 
 abbrev pub Claim : Type 1
 Claim = ℕ → List ℕ → List ℕ → Outcome SlaveState Reply → Type 0
@@ -99,8 +96,8 @@ module _ (P : Claim) (kept : Kept P) where
     abbrev after : (List ℕ → Behaviour SlaveState Answer) → Responded-to → Behaviour SlaveState Answer
     after t r = polled (put INTR-MASK respond-mask) r n (λ w. by-turn w t K)
 
-    sleeps : (w : ℕ) (q : List ℕ) (t : List ℕ → Behaviour SlaveState Answer) → Back t → All w [] q (after t (pending q))
-    sleeps w q t back = masks-all (marks-all (back w q))
+    pends : (w : ℕ) (q : List ℕ) (t : List ℕ → Behaviour SlaveState Answer) → Back t → All w [] q (after t (pending q))
+    pends w q t back = masks-all (marks-all (back w q))
 
     chunk : (w : ℕ) (c q : List ℕ) (t : Behaviour SlaveState Answer) → All w [] q t → All w c q (send-chunk c n (λ _. t))
     unfolding send-chunk
@@ -111,8 +108,8 @@ module _ (P : Claim) (kept : Kept P) where
     feeds w stat [] t back =
         by-test (rx-done stat)
         (λ e. rw e (reads-all refl (λ v. on-done w)))
-        (λ e. rw e (by-test (rd-req stat && tx-empty stat) (λ e. rw e (on-more w)) (λ e. rw e (sleeps w [] t back))))
-    feeds w stat (x ∷ xs) t back = chunk w (take FIFO-SIZE (x ∷ xs)) (drop FIFO-SIZE (x ∷ xs)) _ (sleeps w (drop FIFO-SIZE (x ∷ xs)) t back)
+        (λ e. rw e (by-test (rd-req stat && tx-empty stat) (λ e. rw e (on-more w)) (λ e. rw e (pends w [] t back))))
+    feeds w stat (x ∷ xs) t back = chunk w (take FIFO-SIZE (x ∷ xs)) (drop FIFO-SIZE (x ∷ xs)) _ (pends w (drop FIFO-SIZE (x ∷ xs)) t back)
 
     aborts : (w : ℕ) (c q : List ℕ) (a : AbortReason) (p : Driver Responded-to) (t : List ℕ → Behaviour SlaveState Answer) → abort-reason w ≡ a → All w c q (respond-abort (err a) p n (after t))
     aborts w c q A.NoAcknowledge p t e = on-error w c q (Abort A.NoAcknowledge)

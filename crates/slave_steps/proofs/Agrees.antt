@@ -18,7 +18,7 @@ use Rattle.slave_state.specs.I2cSlave.{is-some, listen, answer, listen-call, re
 use Rattle.slave_state.specs.declared.SlaveState.{SlaveState}
 use Rattle.slave_state.specs.declared.Pending.{Pending}
 use Rattle.slave_state.specs.declared.Pending.the-variants.{None, Byte}
-use Rattle.slave_state.proofs.Small.{by-test, none-pending}
+use Rattle.slave_state.proofs.Basics.{state, by-test, none-pending}
 use Rattle.slave_listen.specs.Machine.{Listener, machine as listening}
 use Rattle.slave_listen.proofs.Listens.{listens}
 use Rattle.slave_respond.specs.Machine.{Responder, machine as responding}
@@ -47,9 +47,6 @@ module _ (bytes : List ℕ) where
   in-response =
       lift (responding bytes .next) (responding bytes .advance) (responding bytes .store) (responding bytes .state) (M .next) (M .advance) (M .store) (M .state) of-responder
       (λ s. refl) (λ s v. refl) (λ s v. refl) (λ s. refl)
-
-  abbrev state : Pending → ℕ → Bool → SlaveState
-  state p address g = record { «pending_byte» = p; address = address; «general_call» = g }
 
   pub listen-agrees : (length : ℕ) (me : SlaveState) (b : List ℕ) (m n : ℕ) → m ≤ n → Agree M m (start-listen me length) b b me (listen-call length n ends)
   unfolding listen-call

@@ -10,7 +10,7 @@ use Rattle.regs.proofs.Refine.{Agree, ends-agree, reads-agree, writes-agree, ma
 use Rattle.slave_state.specs.I2cSlave.{reset, reset-call}
 use Rattle.slave_steps.specs.Machine.{machine, start-reset}
 use Rattle.slave_state.specs.declared.SlaveState.{SlaveState}
-use Rattle.slave_state.proofs.Small.{by-test}
+use Rattle.slave_state.proofs.Basics.{by-test}
 
 module _ (bytes : List ℕ) where
   abbrev M : Machine

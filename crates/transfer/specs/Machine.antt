@@ -1,6 +1,6 @@
 -- A master transfer as a machine: the access at each point, where a reading leads, and what is stored with it.
 use Prim.Native.Nat.{ℕ, _+_, _-_, _%_, _^_, min}
-use mathlib.Core.Bool.{Bool, true, false, not, _&&_, _||_}
+use mathlib.Core.Bool.{Bool, true, false, _&&_, _||_}
 use mathlib.Core.List.{List}
 use lib.Dec.{eqb, ltb}
 use lib.ListN.{length, getD}

@@ -1,5 +1,4 @@
 -- A transfer's parts.
-use Prim.Native.Nat.{ℕ}
 use mathlib.Core.Bool.{Bool, true, false}
 use Rattle.master.specs.Operations.{blocking, async}
 use Rattle.master.specs.Operations as Spec

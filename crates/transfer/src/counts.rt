@@ -1,4 +1,5 @@
 // Counts of bytes and of the FIFO's places, which more than one part of the machine takes.
+use master::FIFO_SIZE;
 use regs::fields::level_of;
 ghost use mathlib.Core.Path.{_≡_};
 ghost use Prim.Native.Nat.{_-_, min};
@@ -39,10 +40,10 @@ pub enum Capacity {
 fn places_of(n: u8) -> Capacity
     ensures { λ r. ⌜ r ≡ places n ⌝ }
 {
-    if 16 < n {
+    if FIFO_SIZE < n {
         return Capacity::TooHigh(n);
     }
-    Capacity::Places((16 - n) as u16)
+    Capacity::Places((FIFO_SIZE - n) as u16)
 }
 
 pub fn capacity_of(v: u32) -> Capacity

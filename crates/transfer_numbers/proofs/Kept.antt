@@ -2,16 +2,13 @@
 use mathlib.Core.Path.{_≡_, refl, ap}
 use mathlib.Core.Bool.{false}
 use mathlib.Core.Logic.{_⊎_, inl, inr}
-use Rattle.regs.specs.declared.answers.AbortReason.{AbortReason}
 use Rattle.regs.specs.declared.answers.AbortReason.the-variants as E
 use Rattle.regs.specs.declared.answers.Answer.{Answer}
 use Rattle.transfer.specs.declared.Mode.{Mode}
 use Rattle.transfer.specs.declared.Mode.the-variants.{Blocking, Async}
 use Rattle.transfer.specs.declared.Tried.{Tried}
 use Rattle.transfer.specs.declared.Tried.the-variants.{Fine, Failed}
-use Rattle.transfer.specs.declared.SetupPoint.{SetupPoint}
 use Rattle.transfer.specs.declared.SetupPoint.the-variants.{Disable, Target, Enable}
-use Rattle.transfer.specs.declared.AbortPoint.{AbortPoint}
 use Rattle.transfer.specs.declared.AbortPoint.the-variants as A
 use Rattle.transfer.specs.declared.Caller.{Caller}
 use Rattle.transfer.specs.declared.Caller.the-variants as C

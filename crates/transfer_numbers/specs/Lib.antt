@@ -1,1 +1,2 @@
+-- A transfer as numbers.
 pub mod Numbers

@@ -2,55 +2,41 @@
 
 use super::*;
 
-// SAFETY, of every call below: the functions are proved for all inputs of these types. References are valid, aligned and not null, a
-// `&mut` overlaps nothing, and the library keeps no pointer.
+// A call with its arguments in order: a `ref` or `mut` slice is passed as a pointer and a length, any other value as it is.
+// SAFETY: the functions are proved for all inputs of these types. References are valid, aligned and not null, a `&mut` overlaps
+// nothing, and the library keeps no pointer.
+macro_rules! call {
+    (@ $function:ident [$($passed:expr),*]) => {
+        unsafe { $function($($passed),*) }
+    };
+    (@ $function:ident [$($passed:expr),*] ref $slice:ident $(, $($rest:tt)+)?) => {
+        call!(@ $function [$($passed,)* $slice.as_ptr(), $slice.len()] $($($rest)+)?)
+    };
+    (@ $function:ident [$($passed:expr),*] mut $slice:ident $(, $($rest:tt)+)?) => {
+        call!(@ $function [$($passed,)* $slice.as_mut_ptr(), $slice.len()] $($($rest)+)?)
+    };
+    (@ $function:ident [$($passed:expr),*] $value:ident $(, $($rest:tt)+)?) => {
+        call!(@ $function [$($passed,)* $value] $($($rest)+)?)
+    };
+    ($function:ident($($arguments:tt)+)) => {
+        call!(@ $function [] $($arguments)+)
+    };
+}
 
 pub fn set_config(frequency: u32, clk: u32, readings: &[u32], log: &mut [u32]) -> Report {
-    unsafe { celadonsaw_set_config(frequency, clk, readings.as_ptr(), readings.len(), log.as_mut_ptr(), log.len()) }
+    call!(celadonsaw_set_config(frequency, clk, ref readings, mut log))
 }
 
 pub fn blocking_read(address: u16, read: &mut [u8], readings: &[u32], log: &mut [u32]) -> Report {
-    unsafe {
-        celadonsaw_blocking_read(
-            address,
-            read.as_mut_ptr(),
-            read.len(),
-            readings.as_ptr(),
-            readings.len(),
-            log.as_mut_ptr(),
-            log.len(),
-        )
-    }
+    call!(celadonsaw_blocking_read(address, mut read, ref readings, mut log))
 }
 
 pub fn blocking_write(address: u16, write: &[u8], readings: &[u32], log: &mut [u32]) -> Report {
-    unsafe {
-        celadonsaw_blocking_write(
-            address,
-            write.as_ptr(),
-            write.len(),
-            readings.as_ptr(),
-            readings.len(),
-            log.as_mut_ptr(),
-            log.len(),
-        )
-    }
+    call!(celadonsaw_blocking_write(address, ref write, ref readings, mut log))
 }
 
 pub fn blocking_write_read(address: u16, write: &[u8], read: &mut [u8], readings: &[u32], log: &mut [u32]) -> Report {
-    unsafe {
-        celadonsaw_blocking_write_read(
-            address,
-            write.as_ptr(),
-            write.len(),
-            read.as_mut_ptr(),
-            read.len(),
-            readings.as_ptr(),
-            readings.len(),
-            log.as_mut_ptr(),
-            log.len(),
-        )
-    }
+    call!(celadonsaw_blocking_write_read(address, ref write, mut read, ref readings, mut log))
 }
 
 pub fn transaction(
@@ -62,67 +48,19 @@ pub fn transaction(
     readings: &[u32],
     log: &mut [u32],
 ) -> Report {
-    unsafe {
-        celadonsaw_transaction(
-            address,
-            kinds.as_ptr(),
-            kinds.len(),
-            lengths.as_ptr(),
-            lengths.len(),
-            write.as_ptr(),
-            write.len(),
-            read.as_mut_ptr(),
-            read.len(),
-            readings.as_ptr(),
-            readings.len(),
-            log.as_mut_ptr(),
-            log.len(),
-        )
-    }
+    call!(celadonsaw_transaction(address, ref kinds, ref lengths, ref write, mut read, ref readings, mut log))
 }
 
 pub fn read_async(address: u16, read: &mut [u8], readings: &[u32], log: &mut [u32]) -> Report {
-    unsafe {
-        celadonsaw_read_async(
-            address,
-            read.as_mut_ptr(),
-            read.len(),
-            readings.as_ptr(),
-            readings.len(),
-            log.as_mut_ptr(),
-            log.len(),
-        )
-    }
+    call!(celadonsaw_read_async(address, mut read, ref readings, mut log))
 }
 
 pub fn write_async(address: u16, write: &[u8], readings: &[u32], log: &mut [u32]) -> Report {
-    unsafe {
-        celadonsaw_write_async(
-            address,
-            write.as_ptr(),
-            write.len(),
-            readings.as_ptr(),
-            readings.len(),
-            log.as_mut_ptr(),
-            log.len(),
-        )
-    }
+    call!(celadonsaw_write_async(address, ref write, ref readings, mut log))
 }
 
 pub fn write_read_async(address: u16, write: &[u8], read: &mut [u8], readings: &[u32], log: &mut [u32]) -> Report {
-    unsafe {
-        celadonsaw_write_read_async(
-            address,
-            write.as_ptr(),
-            write.len(),
-            read.as_mut_ptr(),
-            read.len(),
-            readings.as_ptr(),
-            readings.len(),
-            log.as_mut_ptr(),
-            log.len(),
-        )
-    }
+    call!(celadonsaw_write_read_async(address, ref write, mut read, ref readings, mut log))
 }
 
 pub fn transaction_async(
@@ -134,86 +72,27 @@ pub fn transaction_async(
     readings: &[u32],
     log: &mut [u32],
 ) -> Report {
-    unsafe {
-        celadonsaw_transaction_async(
-            address,
-            kinds.as_ptr(),
-            kinds.len(),
-            lengths.as_ptr(),
-            lengths.len(),
-            write.as_ptr(),
-            write.len(),
-            read.as_mut_ptr(),
-            read.len(),
-            readings.as_ptr(),
-            readings.len(),
-            log.as_mut_ptr(),
-            log.len(),
-        )
-    }
+    call!(celadonsaw_transaction_async(address, ref kinds, ref lengths, ref write, mut read, ref readings, mut log))
 }
 
 pub fn slave_reset(slave: Slave, address: u16, general_call: bool, readings: &[u32], log: &mut [u32]) -> SlaveReport {
-    unsafe {
-        celadonsaw_slave_reset(
-            slave,
-            address,
-            general_call,
-            readings.as_ptr(),
-            readings.len(),
-            log.as_mut_ptr(),
-            log.len(),
-        )
-    }
+    call!(celadonsaw_slave_reset(slave, address, general_call, ref readings, mut log))
 }
 
 pub fn slave_listen(slave: Slave, buffer: &mut [u8], readings: &[u32], log: &mut [u32]) -> SlaveReport {
-    unsafe {
-        celadonsaw_slave_listen(
-            slave,
-            buffer.as_mut_ptr(),
-            buffer.len(),
-            readings.as_ptr(),
-            readings.len(),
-            log.as_mut_ptr(),
-            log.len(),
-        )
-    }
+    call!(celadonsaw_slave_listen(slave, mut buffer, ref readings, mut log))
 }
 
 pub fn slave_respond_to_read(slave: Slave, bytes: &[u8], readings: &[u32], log: &mut [u32]) -> SlaveReport {
-    unsafe {
-        celadonsaw_slave_respond_to_read(
-            slave,
-            bytes.as_ptr(),
-            bytes.len(),
-            readings.as_ptr(),
-            readings.len(),
-            log.as_mut_ptr(),
-            log.len(),
-        )
-    }
+    call!(celadonsaw_slave_respond_to_read(slave, ref bytes, ref readings, mut log))
 }
 
 pub fn slave_respond_till_stop(slave: Slave, fill: u8, readings: &[u32], log: &mut [u32]) -> SlaveReport {
-    unsafe {
-        celadonsaw_slave_respond_till_stop(slave, fill, readings.as_ptr(), readings.len(), log.as_mut_ptr(), log.len())
-    }
+    call!(celadonsaw_slave_respond_till_stop(slave, fill, ref readings, mut log))
 }
 
 pub fn slave_respond_and_fill(slave: Slave, bytes: &[u8], fill: u8, readings: &[u32], log: &mut [u32]) -> SlaveReport {
-    unsafe {
-        celadonsaw_slave_respond_and_fill(
-            slave,
-            bytes.as_ptr(),
-            bytes.len(),
-            fill,
-            readings.as_ptr(),
-            readings.len(),
-            log.as_mut_ptr(),
-            log.len(),
-        )
-    }
+    call!(celadonsaw_slave_respond_and_fill(slave, ref bytes, fill, ref readings, mut log))
 }
 
 pub fn start(
@@ -225,36 +104,13 @@ pub fn start(
     written: usize,
     room: usize,
 ) -> Machine {
-    unsafe {
-        celadonsaw_start(
-            queued,
-            restart,
-            address,
-            kinds.as_ptr(),
-            kinds.len(),
-            lengths.as_ptr(),
-            lengths.len(),
-            written,
-            room,
-        )
-    }
+    call!(celadonsaw_start(queued, restart, address, ref kinds, ref lengths, written, room))
 }
 
 pub fn next_access(machine: Machine, write: &[u8]) -> Access {
-    unsafe { celadonsaw_next_access(machine, write.as_ptr(), write.len()) }
+    call!(celadonsaw_next_access(machine, ref write))
 }
 
 pub fn advance(machine: Machine, value: u32, kinds: &[u8], lengths: &[u16], read: &mut [u8]) -> Machine {
-    unsafe {
-        celadonsaw_advance(
-            machine,
-            value,
-            kinds.as_ptr(),
-            kinds.len(),
-            lengths.as_ptr(),
-            lengths.len(),
-            read.as_mut_ptr(),
-            read.len(),
-        )
-    }
+    call!(celadonsaw_advance(machine, value, ref kinds, ref lengths, mut read))
 }

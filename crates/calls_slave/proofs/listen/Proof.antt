@@ -2,7 +2,7 @@
 use lib.ListN.{length, length-replicate}
 use mathlib.Core.Bool.{true}
 use Rattle.slave_state.specs.I2cSlave.{listen-call}
-use Rattle.calls.proofs.Legal.{listen-call-legal}
+use Rattle.slave_state.proofs.Legals.{listen-call-legal}
 use Rattle.calls.proofs.Prints.{room, prints, state-left}
 use native.Mathlib.Omega.{arith}
 use borrow.Author.Needs.{needs}

@@ -2,7 +2,7 @@
 use mathlib.Core.Bool.{false}
 use mathlib.Core.List.{[]}
 use Rattle.slave_state.specs.I2cSlave.{respond-to-read-call}
-use Rattle.calls.proofs.Legal.{respond-to-read-call-legal}
+use Rattle.slave_state.proofs.Legals.{respond-to-read-call-legal}
 use Rattle.calls.proofs.Prints.{room, prints-none, state-left}
 use native.Mathlib.Omega.{arith}
 use borrow.Author.Needs.{needs}

@@ -23,20 +23,20 @@ on-requires-2 c κs = search needs
 returns-2 : tie.Need-returns-2
 returns-2 c = simp (le-ltb _ _ (c .before .before .before .if1 .left), sym (c .before .before .has-rx-done .ensures) ∙ c .before .if2 .taken, c .on2 .ensures)
 
-is-hungry-requires : tie.Need-is-hungry-requires
-is-hungry-requires c κs = search needs
+needs-more-bytes-requires : tie.Need-needs-more-bytes-requires
+needs-more-bytes-requires c κs = search needs
 
 more-requires : tie.Need-more-requires
 more-requires c κs = search needs
 
 returns-3 : tie.Need-returns-3
-returns-3 c = simp (le-ltb _ _ (c .before .before .before .before .before .if1 .left), sym (c .before .before .before .before .has-rx-done .ensures) ∙ c .before .before .before .if2 .left, sym (c .before .before .is-hungry .ensures) ∙ c .before .if3 .taken, c .more .ensures)
+returns-3 c = simp (le-ltb _ _ (c .before .before .before .before .before .if1 .left), sym (c .before .before .before .before .has-rx-done .ensures) ∙ c .before .before .before .if2 .left, sym (c .before .before .needs-more-bytes .ensures) ∙ c .before .if3 .taken, c .more .ensures)
 
 on-requires-3 : tie.Need-on-requires-3
 on-requires-3 c κs = search needs
 
 returns-4 : tie.Need-returns-4
-returns-4 c = simp (le-ltb _ _ (c .before .before .before .before .before .if1 .left), sym (c .before .before .before .before .has-rx-done .ensures) ∙ c .before .before .before .if2 .left, sym (c .before .before .is-hungry .ensures) ∙ c .before .if3 .left, c .on3 .ensures)
+returns-4 c = simp (le-ltb _ _ (c .before .before .before .before .before .if1 .left), sym (c .before .before .before .before .has-rx-done .ensures) ∙ c .before .before .before .if2 .left, sym (c .before .before .needs-more-bytes .ensures) ∙ c .before .if3 .left, c .on3 .ensures)
 
 pub feed-spec : {M : Type 1} → statement M
 feed-spec =
@@ -48,7 +48,7 @@ feed-spec =
     has-rx-done-requires
     on-requires-2
     returns-2
-    is-hungry-requires
+    needs-more-bytes-requires
     more-requires
     returns-3
     on-requires-3

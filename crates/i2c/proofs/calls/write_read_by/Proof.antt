@@ -1,5 +1,6 @@
 -- `i2c::calls::write_read_by` meets its contract.
-use Rattle.i2c.proofs.Called.{write-read-leaves, refused-buffer, first, second}
+use Rattle.i2c.proofs.Basics.{first, second}
+use Rattle.i2c.proofs.Called.{write-read-leaves, refused-buffer}
 use Rattle.transfer.specs.Points.{mode-of}
 use Rattle.master.specs.Transfer.{transfer}
 use Rattle.master.specs.Operations as Spec

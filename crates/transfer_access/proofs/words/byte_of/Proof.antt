@@ -4,7 +4,6 @@ use denote.Ref.{now}
 use native.Mathlib.Omega.{arith}
 use mathlib.Core.Path.{sym}
 use lib.ListN.{List·getD-eq-default}
-use borrow.Author.Tests.{le-ltb, lt-ltb}
 use borrow.Author.Needs.{needs}
 use Rattle.transfer_access.proofs.words.byte_of.Statement.{statement}
 use Rattle.transfer_access.proofs.words.byte_of.Tie as tie

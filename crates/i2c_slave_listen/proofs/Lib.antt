@@ -1,0 +1,2 @@
+-- What the proofs of the calls to which the state is lent share.
+pub mod Fields
