@@ -15,8 +15,7 @@ use Rattle.frames_text.specs.declared.digits.Value.the-variants.{Is, No}
 use Rattle.lines.specs.Frame.{frame-of, reading, reading-of, sized, of-kind, head-of, by-head}
 use Rattle.lines.specs.declared.Head.the-variants.{Plain}
 use Rattle.reader.specs.Rest.{Ahead}
-use Rattle.frames_text.specs.Appended.{NumberAs}
-use Rattle.readings_run.specs.Run.{Written, ReadingAt}
+use Rattle.readings_run.specs.Run.{WordAt, Written, ReadingAt}
 use Rattle.readings_run.proofs.Scans.{Scanned, scan-none, scan-more, scan-found}
 
 no-number : {v : ℕ} → No ≡ Is v → ⊥
@@ -95,6 +94,6 @@ module _ (chunk : List ℕ) (u w : ℕ) (p : Written chunk u w) where
   a-line = scan-found (scanned 10 (omega arith)) (p .inside) (p .lf)
 
 -- what `reading_at` has found
-pub found : (chunk : List ℕ) (i : ℕ) (r : Value) → NumberAs chunk (i + 2) 8 r → getD chunk i 0 ≡ 50 → getD chunk (i + 1) 0 ≡ 48 → getD chunk (i + 10) 0 ≡ 10 → i + 10 < length chunk → ReadingAt chunk i r
+pub found : (chunk : List ℕ) (i : ℕ) (r : Value) → WordAt chunk (i + 2) r → getD chunk i 0 ≡ 50 → getD chunk (i + 1) 0 ≡ 48 → getD chunk (i + 10) 0 ≡ 10 → i + 10 < length chunk → ReadingAt chunk i r
 found chunk i No n a b c h = tt
-found chunk i (Is w) n a b c h = record { two = a; zero = b; word = sym (n .same); lf = c; inside = h }
+found chunk i (Is w) n a b c h = record { two = a; zero = b; word = n; lf = c; inside = h }

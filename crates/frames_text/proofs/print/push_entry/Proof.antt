@@ -1,27 +1,27 @@
 -- `frames_text::print::push_entry` meets its contract.
-use Rattle.frames_text.specs.Print.{entry-text}
-use borrow.Author.Tests.{eq-eqb, ne-eqb}
 use borrow.Author.Needs.{needs}
 use Rattle.frames_text.proofs.print.push_entry.Statement.{statement}
 use Rattle.frames_text.proofs.print.push_entry.Tie as tie
+use Rattle.frames_text.specs.Print.{entry-text}
+use borrow.Author.Tests.{eq-eqb, ne-eqb}
 
 enum-known-e : tie.Need-enum-known-e
 enum-known-e c = search needs
 
-cast-push-word : tie.Need-cast-push-word
-cast-push-word c = search needs
+wide-requires : tie.Need-wide-requires
+wide-requires c κs = search needs
 
-push-word-requires : tie.Need-push-word-requires
-push-word-requires c κs = search needs
+copy-word-requires : tie.Need-copy-word-requires
+copy-word-requires c κs = search needs
 
 enum-known-e-2 : tie.Need-enum-known-e-2
 enum-known-e-2 c = search needs
 
-cast-push-word-2 : tie.Need-cast-push-word-2
-cast-push-word-2 c = search needs
+wide-requires-2 : tie.Need-wide-requires-2
+wide-requires-2 c κs = search needs
 
-push-word-requires-2 : tie.Need-push-word-requires-2
-push-word-requires-2 c κs = search needs
+copy-word-requires-2 : tie.Need-copy-word-requires-2
+copy-word-requires-2 c κs = search needs
 
 enum-known-e-3 : tie.Need-enum-known-e-3
 enum-known-e-3 c = search needs
@@ -44,14 +44,14 @@ same-length-2 c = search needs
 
 returns-2 : tie.Need-returns-2
 unfolding entry-text
-returns-2 c = rw (c .before .before .before .before .before .e .given .1) (c .before .before .push-word .ensures)
+returns-2 c = rw (c .before .before .before .before .before .before .e .given .1, ← c .before .before .before .wide .ensures) (c .before .before .copy-word .ensures)
 
 same-length-3 : tie.Need-same-length-3
 same-length-3 c = search needs
 
 returns-3 : tie.Need-returns-3
 unfolding entry-text
-returns-3 c = rw (c .before .before .before .before .before .e2 .given .1) (c .before .before .push-word2 .ensures)
+returns-3 c = rw (c .before .before .before .before .before .before .e2 .given .1, ← c .before .before .before .wide2 .ensures) (c .before .before .copy-word2 .ensures)
 
 same-length-4 : tie.Need-same-length-4
 same-length-4 c = search needs
@@ -65,11 +65,11 @@ push-entry-spec =
     tie.close
     (tie.spec
     enum-known-e
-    cast-push-word
-    push-word-requires
+    wide-requires
+    copy-word-requires
     enum-known-e-2
-    cast-push-word-2
-    push-word-requires-2
+    wide-requires-2
+    copy-word-requires-2
     enum-known-e-3
     push-plain-requires
     same-length
