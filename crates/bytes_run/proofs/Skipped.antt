@@ -11,7 +11,7 @@ use lib.Seq.{take-suc, getD-drop, drop-drop, length-take-le}
 use borrow.Author.Tests.{lt-ltb, ltb-true, ne-eqb}
 use Rattle.frames_text.specs.Text.{lines-after, digit-of}
 use Rattle.frames_text.specs.Pairs.{all-digits}
-use Rattle.frames_text.proofs.Pairs.{both-of, digits-joined}
+use Rattle.frames_text.proofs.Pairs.{both-of, digits-joined, lf-none}
 use Rattle.session.specs.Bounded.{Held}
 use Rattle.session.specs.Enter.{LONGEST-KEPT}
 use Rattle.reader.specs.Rest.{digits-more, from-line, long-line}
@@ -30,17 +30,13 @@ skipped-more {chunk} {i} {k} p h l =
       inside = omega arith;
     }
 
-no-lf : (x : ℕ) → digit-of x < 16 → x ≡ 10 → ⊥
-unfolding digit-of
-no-lf x h z = let k : digit-of 10 < 16 = rw z at h in omega (arith, k)
-
 -- digits are no LF, so that the line goes on with them
 on : (ds begun input : List ℕ) → all-digits ds ≡ true → lines-after begun (ds ++ input) ≡ lines-after (begun ++ ds) input
 unfolding lines-after all-digits
 on [] begun input e = rw append-nil
 on (d ∷ ds) begun input e =
     let b = both-of (ltb (digit-of d) 16) (all-digits ds) e in
-    rw (ne-eqb d 10 (no-lf d (ltb-true (digit-of d) 16 (b .0))), ← append-assoc begun (d ∷ []) ds) (on ds (begun ++ (d ∷ [])) input (b .1))
+    rw (ne-eqb d 10 (lf-none (ltb-true (digit-of d) 16 (b .0))), ← append-assoc begun (d ∷ []) ds) (on ds (begun ++ (d ∷ [])) input (b .1))
 
 zero-digit : all-digits (48 ∷ []) ≡ true
 unfolding all-digits digit-of

@@ -10,7 +10,7 @@ use lib.ListN.{length, take, drop, getD, set, length-set, drop-of-length-le}
 use lib.Seq.{drop-cons, take-suc, take-suc-set, take-set-le, take-all}
 use borrow.Author.Tests.{ltb-true, ltb-false}
 use Rattle.regs.specs.Program.{if_then_else_}
-use Rattle.frames_text.specs.Text.{digit-of, Bytes, these, none, and-bytes, bytes-of}
+use Rattle.frames_text.specs.Text.{LF, digit-of, Bytes, these, none, and-bytes, bytes-of}
 use Rattle.frames_text.specs.Pairs.{all-digits, whole-pairs, values, PutAt}
 
 pub false-true : false ≡ true → ⊥
@@ -51,6 +51,11 @@ digits-joined (c ∷ cs) es = rw (digits-joined cs es) (go (ltb (digit-of c) 16)
     go : (a b e : Bool) → a && (b && e) ≡ (a && b) && e
     go true b e = refl
     go false b e = refl
+
+-- an LF is no digit
+pub lf-none : {x : ℕ} → digit-of x < 16 → x ≡ LF → ⊥
+unfolding digit-of
+lf-none h e = let k : digit-of 10 < 16 = rw e at h in omega (arith, k)
 
 -- the value of a digit, with no test
 pub digit-plain : (c : ℕ) → digit-of c < 16 → c % 16 + c / 64 * 9 ≡ digit-of c

@@ -11,6 +11,7 @@ ghost use Rattle.frames_text.specs.Text.{hex2, hex4, hex8};
 ghost use Rattle.frames_text.specs.Print.{plain-frame, word-frame, entry-text, log-text, bytes-text, buffer-text, answer-text, reply-text};
 ghost use Rattle.frames_text.specs.Appended.{Appended};
 ghost use Rattle.frames_text.specs.Pairs.{DigitPairs};
+ghost use Rattle.frames_text.specs.Shown.{shown-as};
 
 fn wide(b: u8) -> u32
     ensures { λ r. ⌜ r ≡ b ⌝ }
@@ -106,20 +107,48 @@ fn copy_word(out: &mut [u8], at: usize, pairs: &[u8], kind: u32, byte: u32, word
     push(out, c, 10)
 }
 
+// An entry as it is printed: kind, byte and word of a read or a write, or 0 and a mark.
+struct Shown {
+    kind: u32,
+    byte: u8,
+    word: u32,
+}
+
+fn show(e: Entry) -> Shown
+    ensures { λ r. ⌜ r ≡ shown-as e ⌝ }
+{
+    match e {
+        Entry::Read(r, v) => Shown {
+            kind: 0x30,
+            byte: r,
+            word: v,
+        },
+        Entry::Write(r, v) => Shown {
+            kind: 0x31,
+            byte: r,
+            word: v,
+        },
+        Entry::Marked(x) => Shown {
+            kind: 0,
+            byte: x,
+            word: 0,
+        },
+    }
+}
+
+// Reads and writes take one way, so that which of the two comes next need not be guessed.
 fn push_entry(out: &mut [u8], at: usize, pairs: &[u8], e: Entry) -> usize
     requires { ⌜ (at + 13 ≤ length (now out)) × DigitPairs (now pairs) ⌝ }
     ensures { λ r. ⌜ Appended (now (out .entry)) at (entry-text e) 13 (now (out .exit)) r ⌝ }
 {
-    match e {
-        Entry::Read(r, v) => copy_word(out, at, pairs, 0x30, wide(r), v),
-        Entry::Write(r, v) => copy_word(out, at, pairs, 0x31, wide(r), v),
-        Entry::Marked(x) => {
-            if x == regs::PENDING {
-                return push_plain(out, at, 0x32);
-            }
-            push_plain(out, at, 0x33)
+    let s = show(e);
+    if s.kind == 0 {
+        if s.byte == regs::PENDING {
+            return push_plain(out, at, 0x32);
         }
+        return push_plain(out, at, 0x33);
     }
+    copy_word(out, at, pairs, s.kind, wide(s.byte), s.word)
 }
 
 // The first n entries of a log, with a table lent.

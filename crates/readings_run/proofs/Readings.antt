@@ -12,6 +12,7 @@ use Rattle.regs.specs.Program.{if_then_else_}
 use Rattle.frames_text.specs.Text.{digit-of, and-digit, number-at}
 use Rattle.frames_text.specs.declared.digits.Value.{Value}
 use Rattle.frames_text.specs.declared.digits.Value.the-variants.{Is, No}
+use Rattle.frames_text.proofs.Pairs.{lf-none}
 use Rattle.lines.specs.Frame.{frame-of, reading, reading-of, sized, of-kind, head-of, by-head}
 use Rattle.lines.specs.declared.Head.the-variants.{Plain}
 use Rattle.reader.specs.Rest.{Ahead}
@@ -39,11 +40,6 @@ digit-in chunk at (suc n) {v} e j h = go (number-at chunk at n) refl e (λ (x : 
         last false b k c l = absurd (no-number k)
         last true b k true l = before x f (ltb-true _ _ l)
         last true b k false l = let z : j ≡ n = omega (arith, ltb-false j n l) in rw z (ltb-true _ _ b)
-
--- an LF is no digit
-lf-none : {x : ℕ} → digit-of x < 16 → x ≡ 10 → ⊥
-unfolding digit-of
-lf-none h e = let k : digit-of 10 < 16 = rw e at h in omega (arith, k)
 
 module _ (chunk : List ℕ) (u w : ℕ) (p : Written chunk u w) where
   abbrev line : List ℕ
