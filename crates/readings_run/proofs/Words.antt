@@ -3,13 +3,12 @@ use Prim.Native.Nat.{ℕ, _+_, _*_, _<_, _≤_}
 use native.Mathlib.Omega.{arith}
 use mathlib.Core.Bool.{Bool, true, false}
 use mathlib.Core.List.{List}
-use mathlib.Core.Path.{_≡_, refl, sym, ap, _∙_}
+use mathlib.Core.Path.{_≡_, refl, ap, _∙_}
 use lib.Dec.{ltb}
 use lib.ListN.{length, getD}
 use borrow.Author.Tests.{ltb-true}
 use Rattle.regs.specs.Program.{if_then_else_}
 use Rattle.frames_text.specs.Text.{digit-of, number-at}
-use Rattle.frames_text.specs.declared.digits.Value.{Value}
 use Rattle.frames_text.specs.declared.digits.Value.the-variants.{Is}
 use Rattle.frames_text.proofs.Numbers.{one-more}
 use Rattle.frames_text.proofs.Tables.{every, at}
