@@ -1,5 +1,5 @@
 // The replay's reader: bytes in chunks of any size, calls run in order, answers out, in lent slices of fixed size.
-use frames_step::Fed;
+use bytes_run::Fed;
 use frames_step::step;
 use frames_text::print;
 use reader::Part;

@@ -1,10 +1,11 @@
-// A step of the reader through a chunk: a run of readings, a line, or a byte.
+// A step of the reader through a chunk: a run of readings, a line, or some bytes of a line.
 pub mod ahead; // whole lines of a chunk
 
 use ahead::fresh_line;
+use bytes_run::Fed;
+use bytes_run::some;
 use reader::State;
 use reader::turns::end_line;
-use reader::turns::one;
 use readings_run::after_run;
 use readings_run::run_readings;
 use session_lines::enter_line;
@@ -13,15 +14,8 @@ ghost use lib.ListN.{length, drop};
 ghost use Rattle.calls.specs.Runs.{MOST-TEXT};
 ghost use Rattle.reader.specs.Rest.{whole, Sound, Went};
 
-// The state after some of a chunk, how much of it was read, and where the answers in `out` end.
-pub struct Fed {
-    pub state: State,
-    pub used: usize,
-    pub made: usize,
-}
-
-// A whole line of the chunk, where one is ahead, or else a byte.
-fn line_or_byte(
+// A whole line of the chunk, where one is ahead, or else some bytes.
+fn line_or_bytes(
     chunk: &[u8],
     i: usize,
     s: State,
@@ -67,9 +61,9 @@ fn line_or_byte(
             made: t.made,
         };
     }
-    let used = i + 1;
-    let t = one(
-        chunk[i],
+    some(
+        chunk,
+        i,
         s,
         text,
         kinds,
@@ -80,16 +74,10 @@ fn line_or_byte(
         log,
         out,
         at,
-    );
-    let state = t.state;
-    Fed {
-        state,
-        used,
-        made: t.made,
-    }
+    )
 }
 
-// A run of readings, where one is ahead, or else a line or a byte.
+// A run of readings, where one is ahead, or else a line or some bytes.
 pub fn step(
     chunk: &[u8],
     i: usize,
@@ -116,7 +104,7 @@ pub fn step(
             made: at,
         };
     }
-    line_or_byte(
+    line_or_bytes(
         chunk,
         i,
         s,

@@ -4,14 +4,32 @@ use native.Mathlib.Omega.{arith}
 use native.Mathlib.Numerals.{add-one}
 use mathlib.Core.List.{List, _∷_, _++_, append-assoc, append-nil}
 use mathlib.Core.Path.{_≡_, refl, sym, ap, _∙_}
+use lib.Dec.{eqb}
 use lib.ListN.{length, take, drop, getD, drop-of-length-le}
 use lib.Seq.{length-take-le, getD-take, drop-cons}
 use Rattle.regs.specs.Log.{entry, decode}
 use Rattle.regs.specs.declared.access.Entry.{Entry}
+use Rattle.regs.specs.declared.access.Entry.the-variants.{Read, Write, Marked}
+use Rattle.regs.specs.Program.{if_then_else_, PENDING}
 use Rattle.regs.proofs.RoundTrip.{decode-next, decode-end}
 use Rattle.frames_text.specs.Text.{hex2}
-use Rattle.frames_text.specs.Print.{entry-text, log-text, bytes-text}
+use Rattle.frames_text.specs.Print.{plain-frame, word-frame, entry-text, log-text, bytes-text}
 use Rattle.frames_text.specs.Appended.{Appended}
+use Rattle.frames_text.specs.Shown.{shown-as}
+use Rattle.frames_text.specs.declared.print.Shown.{Shown}
+
+-- a mark has its own frame, and every other entry one of its kind, a byte and a word
+pub mark-text : (e : Entry) {s : Shown} → s ≡ shown-as e → s .kind ≡ 0 → entry-text e ≡ (if eqb (s .byte) PENDING then plain-frame 0x32 else plain-frame 0x33)
+unfolding entry-text
+mark-text (Read r v) q h = let z : _≡_ {A = ℕ} 0x30 0 = rw q at h in absurd (omega arith)
+mark-text (Write r v) q h = let z : _≡_ {A = ℕ} 0x31 0 = rw q at h in absurd (omega arith)
+mark-text (Marked x) q h = rw q
+
+pub access-text : (e : Entry) {s : Shown} → s ≡ shown-as e → (s .kind ≡ 0 → ⊥) → entry-text e ≡ word-frame (s .kind) (s .byte) (s .word)
+unfolding entry-text
+access-text (Read r v) q h = rw q
+access-text (Write r v) q h = rw q
+access-text (Marked x) q h = absurd (h (rw q))
 
 -- the text of the entries from i on
 abbrev pub to-come : List ℕ → ℕ → List ℕ

@@ -3,3 +3,4 @@ pub mod Appends
 pub mod Numbers
 pub mod Entries
 pub mod Pairs
+pub mod Tables

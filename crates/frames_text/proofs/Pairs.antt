@@ -1,5 +1,5 @@
 -- Pairs of digits, digit by digit and byte by byte.
-use Prim.Native.Nat.{ℕ, zero, suc, _+_, _*_, _/_, _%_, _<_, _≤_}
+use Prim.Native.Nat.{ℕ, zero, suc, _+_, _*_, _-_, _/_, _%_, _<_, _≤_}
 use native.Mathlib.Omega.{arith}
 use native.Mathlib.Numerals.{add-one}
 use mathlib.Core.Bool.{Bool, true, false, _&&_}
@@ -8,9 +8,9 @@ use mathlib.Core.Path.{_≡_, refl, sym, ap, _∙_}
 use lib.Dec.{eqb, ltb}
 use lib.ListN.{length, take, drop, getD, set, length-set, drop-of-length-le}
 use lib.Seq.{drop-cons, take-suc, take-suc-set, take-set-le, take-all}
-use borrow.Author.Tests.{ltb-true, le-ltb, lt-ltb}
+use borrow.Author.Tests.{ltb-true, ltb-false}
 use Rattle.regs.specs.Program.{if_then_else_}
-use Rattle.frames_text.specs.Text.{digit-of, Bytes, these, none, and-bytes, bytes-of}
+use Rattle.frames_text.specs.Text.{LF, digit-of, Bytes, these, none, and-bytes, bytes-of}
 use Rattle.frames_text.specs.Pairs.{all-digits, whole-pairs, values, PutAt}
 
 pub false-true : false ≡ true → ⊥
@@ -27,15 +27,15 @@ pub digit-next : (ds : List ℕ) (i : ℕ) → i < length ds → all-digits (dro
 unfolding all-digits
 digit-next ds i h = rw (drop-cons ds i 0 h, add-one)
 
-pub no-digit : (ds : List ℕ) (i : ℕ) → i < length ds → 16 ≤ digit-of (getD ds i 0) → all-digits (drop i ds) ≡ false
-no-digit ds i h l = digit-next ds i h ∙ rw (le-ltb _ _ l)
+-- one more byte is looked at, after what was found of those before
+pub digit-more : (b : Bool) (ds : List ℕ) (i : ℕ) {d : ℕ} → i < length ds → d ≡ digit-of (getD ds i 0) → (b && ltb d 16) && all-digits (drop (i + 1) ds) ≡ b && all-digits (drop i ds)
+digit-more true ds i h e = rw e (sym (digit-next ds i h))
+digit-more false ds i h e = refl
 
-pub a-digit : (ds : List ℕ) (i : ℕ) → i < length ds → digit-of (getD ds i 0) < 16 → all-digits (drop i ds) ≡ all-digits (drop (i + 1) ds)
-a-digit ds i h l = digit-next ds i h ∙ rw (lt-ltb _ _ l)
-
-pub digits-end : (ds : List ℕ) (i : ℕ) → length ds ≤ i → all-digits (drop i ds) ≡ true
+pub digits-end : (b : Bool) (ds : List ℕ) (i : ℕ) → length ds ≤ i → b && all-digits (drop i ds) ≡ b
 unfolding all-digits
-digits-end ds i h = rw (drop-of-length-le ds h)
+digits-end true ds i h = rw (drop-of-length-le ds h)
+digits-end false ds i h = refl
 
 pub digit-at : (ds : List ℕ) (i : ℕ) → all-digits ds ≡ true → i < length ds → digit-of (getD ds i 0) < 16
 unfolding all-digits
@@ -51,6 +51,24 @@ digits-joined (c ∷ cs) es = rw (digits-joined cs es) (go (ltb (digit-of c) 16)
     go : (a b e : Bool) → a && (b && e) ≡ (a && b) && e
     go true b e = refl
     go false b e = refl
+
+-- an LF is no digit
+pub lf-none : {x : ℕ} → digit-of x < 16 → x ≡ LF → ⊥
+unfolding digit-of
+lf-none h e = let k : digit-of 10 < 16 = rw e at h in omega (arith, k)
+
+-- the value of a digit, with no test
+pub digit-plain : (c : ℕ) → digit-of c < 16 → c % 16 + c / 64 * 9 ≡ digit-of c
+unfolding digit-of
+digit-plain c = go (ltb c 48) (ltb c 58) (ltb c 65) (ltb c 71) refl refl refl refl
+  where
+    go : (p q r t : Bool) → ltb c 48 ≡ p → ltb c 58 ≡ q → ltb c 65 ≡ r → ltb c 71 ≡ t
+        → (if p then 16 else (if q then c - 48 else (if r then 16 else (if t then c - 55 else 16)))) < 16 → c % 16 + c / 64 * 9 ≡ (if p then 16 else (if q then c - 48 else (if r then 16 else (if t then c - 55 else 16))))
+    go true q r t a b d e h = absurd (omega arith)
+    go false true r t a b d e h = omega (arith, ltb-false c 48 a, ltb-true c 58 b)
+    go false false true t a b d e h = absurd (omega arith)
+    go false false false true a b d e h = omega (arith, ltb-false c 65 d, ltb-true c 71 e)
+    go false false false false a b d e h = absurd (omega arith)
 
 -- ---- by pairs
 
@@ -124,6 +142,10 @@ pub none-put : (ds : List ℕ) (at : ℕ) (before : List ℕ) → Putting ds at 
 none-put ds at before =
     let z : at + 0 ≡ at = omega arith in
     record { stored = λ h. rw z (sym (append-nil (take at before))); below = refl; size = refl; within = omega arith }
+
+-- where there is no room for all, nothing is put
+pub not-put : (ds : List ℕ) (at : ℕ) (before : List ℕ) → length before < at + length ds / 2 → PutAt ds at before before
+not-put ds at before h = record { stored = λ l. absurd (omega arith); below = refl; size = refl }
 
 module _ {ds before after : List ℕ} {at i : ℕ} (p : Putting ds at before after i) where
   pub one-put : (v : ℕ) → i < length ds / 2 → v ≡ getD (values ds) i 0 → Putting ds at before (set after (at + i) v) (i + 1)

@@ -1,11 +1,11 @@
 -- Bytes as pairs of digits, and where they were put. Contracts of inner functions cite this.
-use Prim.Native.Nat.{ℕ, _+_, _*_, _/_, _%_, _≤_}
+use Prim.Native.Nat.{ℕ, _+_, _*_, _/_, _%_, _<_, _≤_}
 use mathlib.Core.Bool.{Bool, true, _&&_}
 use mathlib.Core.List.{List, [], _∷_, _++_}
 use mathlib.Core.Path.{_≡_}
 use lib.Dec.{eqb, ltb}
-use lib.ListN.{length, take}
-use Rattle.frames_text.specs.Text.{digit-of}
+use lib.ListN.{length, take, getD}
+use Rattle.frames_text.specs.Text.{digit-of, char-of}
 
 unfoldable pub all-digits : List ℕ → Bool
 all-digits [] = true
@@ -25,3 +25,9 @@ pub record PutAt (ds : List ℕ) (at : ℕ) (before after : List ℕ) : Type 0 w
   pub stored : at + length ds / 2 ≤ length before → take (at + length ds / 2) after ≡ take at before ++ values ds
   pub below : take at after ≡ take at before
   pub size : length after ≡ length before
+
+-- a table of the two digits of every byte
+pub record DigitPairs (table : List ℕ) : Type 0 where
+  pub size : length table ≡ 512
+  pub high : (b : ℕ) → b < 256 → getD table (b * 2) 0 ≡ char-of (b / 16 % 16)
+  pub low : (b : ℕ) → b < 256 → getD table (b * 2 + 1) 0 ≡ char-of (b % 16)

@@ -49,17 +49,17 @@ pub fn number(line: &[u8], at: usize, n: usize) -> Value
     Value::Is(v)
 }
 
+// Whether all bytes are digits. No byte ends the loop, so that it is compiled to look at many at once.
 pub fn all_digits(ds: &[u8]) -> bool
     ensures { λ r. ⌜ r ≡ all-digits (now (ds .entry)) ⌝ }
 {
+    let mut so_far = true;
     let mut i: usize = 0;
     while i < ds.len() {
-        if 15 < digit(ds[i]) {
-            return false;
-        }
+        so_far = so_far & (digit(ds[i]) < 16);
         i += 1;
     }
-    true
+    so_far
 }
 
 // Whether the line is pairs of digits.
@@ -72,13 +72,21 @@ pub fn is_pairs(ds: &[u8]) -> bool
     false
 }
 
+// The value of a byte that is a digit, with no test: a letter is above 64, and its lowest bits count from 1.
+fn digit_value(c: u8) -> u8
+    requires { ⌜ digit-of c < 16 ⌝ }
+    ensures { λ r. ⌜ r ≡ digit-of c ⌝ }
+{
+    c % 16 + c / 64 * 9
+}
+
 // The byte that the pair of digits i writes.
 fn pair(ds: &[u8], i: usize) -> u8
     requires { ⌜ (whole-pairs (now ds) ≡ true) × (i < length (now ds) / 2) ⌝ }
     ensures { λ r. ⌜ r ≡ getD (values (now (ds .entry))) i 0 ⌝ }
 {
-    let high = digit(ds[2 * i]);
-    let low = digit(ds[2 * i + 1]);
+    let high = digit_value(ds[2 * i]);
+    let low = digit_value(ds[2 * i + 1]);
     high * 16 + low
 }
 
@@ -91,15 +99,18 @@ pub fn put(bytes: &mut [u8], at: usize, v: u8)
     }
 }
 
-// The bytes that pairs of digits write, put at `at` of a lent buffer as far as it goes.
+// The bytes that pairs of digits write, put at `at` of a lent buffer where it has room for them.
 pub fn put_bytes(ds: &[u8], bytes: &mut [u8], at: usize)
     requires { ⌜ (whole-pairs (now ds) ≡ true) × (at ≤ 4096) ⌝ }
     ensures { λ _. ⌜ PutAt (now (ds .entry)) at (now (bytes .entry)) (now (bytes .exit)) ⌝ }
 {
     let n = ds.len() / 2;
+    if bytes.len() < at + n {
+        return;
+    }
     let mut i: usize = 0;
     while i < n {
-        put(bytes, at + i, pair(ds, i));
+        bytes[at + i] = pair(ds, i);
         i += 1;
     }
 }

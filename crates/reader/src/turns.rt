@@ -69,7 +69,7 @@ pub fn end_line(line: u32, e: Entered, out: &mut [u8], at: usize) -> Turn
 }
 
 // The line goes on.
-fn go_on(s: State, part: Part, at: usize) -> Turn
+pub fn go_on(s: State, part: Part, at: usize) -> Turn
     ensures { λ r. ⌜ r ≡ record { state = with-part s part; made = at } ⌝ }
 {
     let call = s.call;

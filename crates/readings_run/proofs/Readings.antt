@@ -3,7 +3,7 @@ use Prim.Native.Nat.{ℕ, zero, suc, _+_, _*_, _<_, _≤_}
 use native.Mathlib.Omega.{arith}
 use mathlib.Core.List.{List}
 use mathlib.Core.Bool.{Bool, true, false}
-use mathlib.Core.Path.{_≡_, refl, sym, ap, _∙_}
+use mathlib.Core.Path.{_≡_, refl, ap, _∙_}
 use lib.Dec.{ltb}
 use lib.ListN.{length, take, drop, getD, length-drop}
 use lib.Seq.{getD-take, getD-drop, length-take-le}
@@ -12,11 +12,11 @@ use Rattle.regs.specs.Program.{if_then_else_}
 use Rattle.frames_text.specs.Text.{digit-of, and-digit, number-at}
 use Rattle.frames_text.specs.declared.digits.Value.{Value}
 use Rattle.frames_text.specs.declared.digits.Value.the-variants.{Is, No}
+use Rattle.frames_text.proofs.Pairs.{lf-none}
 use Rattle.lines.specs.Frame.{frame-of, reading, reading-of, sized, of-kind, head-of, by-head}
 use Rattle.lines.specs.declared.Head.the-variants.{Plain}
 use Rattle.reader.specs.Rest.{Ahead}
-use Rattle.frames_text.specs.Appended.{NumberAs}
-use Rattle.readings_run.specs.Run.{Written, ReadingAt}
+use Rattle.readings_run.specs.Run.{WordAt, Written, ReadingAt}
 use Rattle.readings_run.proofs.Scans.{Scanned, scan-none, scan-more, scan-found}
 
 no-number : {v : ℕ} → No ≡ Is v → ⊥
@@ -40,11 +40,6 @@ digit-in chunk at (suc n) {v} e j h = go (number-at chunk at n) refl e (λ (x : 
         last false b k c l = absurd (no-number k)
         last true b k true l = before x f (ltb-true _ _ l)
         last true b k false l = let z : j ≡ n = omega (arith, ltb-false j n l) in rw z (ltb-true _ _ b)
-
--- an LF is no digit
-lf-none : {x : ℕ} → digit-of x < 16 → x ≡ 10 → ⊥
-unfolding digit-of
-lf-none h e = let k : digit-of 10 < 16 = rw e at h in omega (arith, k)
 
 module _ (chunk : List ℕ) (u w : ℕ) (p : Written chunk u w) where
   abbrev line : List ℕ
@@ -95,6 +90,6 @@ module _ (chunk : List ℕ) (u w : ℕ) (p : Written chunk u w) where
   a-line = scan-found (scanned 10 (omega arith)) (p .inside) (p .lf)
 
 -- what `reading_at` has found
-pub found : (chunk : List ℕ) (i : ℕ) (r : Value) → NumberAs chunk (i + 2) 8 r → getD chunk i 0 ≡ 50 → getD chunk (i + 1) 0 ≡ 48 → getD chunk (i + 10) 0 ≡ 10 → i + 10 < length chunk → ReadingAt chunk i r
+pub found : (chunk : List ℕ) (i : ℕ) (r : Value) → WordAt chunk (i + 2) r → getD chunk i 0 ≡ 50 → getD chunk (i + 1) 0 ≡ 48 → getD chunk (i + 10) 0 ≡ 10 → i + 10 < length chunk → ReadingAt chunk i r
 found chunk i No n a b c h = tt
-found chunk i (Is w) n a b c h = record { two = a; zero = b; word = sym (n .same); lf = c; inside = h }
+found chunk i (Is w) n a b c h = record { two = a; zero = b; word = n; lf = c; inside = h }

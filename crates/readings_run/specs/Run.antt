@@ -7,7 +7,7 @@ use lib.Dec.{ltb, eqb}
 use lib.ListN.{length, take, drop, getD}
 use Rattle.regs.specs.Program.{if_then_else_}
 use Rattle.slave_state.specs.declared.SlaveState.{SlaveState}
-use Rattle.frames_text.specs.Text.{number-at}
+use Rattle.frames_text.specs.Text.{digit-of, number-at}
 use Rattle.frames_text.specs.declared.digits.Value.{Value}
 use Rattle.frames_text.specs.declared.digits.Value.the-variants.{Is, No}
 use Rattle.calls.specs.Calls.{MOST-READINGS}
@@ -24,6 +24,19 @@ use Rattle.reader.specs.declared.Part.{Part}
 use Rattle.reader.specs.declared.Part.the-variants.{Stopped, Text, Long}
 use Rattle.reader.specs.declared.State.{State}
 use Rattle.readings_run.specs.declared.Ran.{Ran}
+
+-- of a digit its value, and 128 of every other byte; and a table of that
+unfoldable pub marked : ℕ → ℕ
+marked c = if ltb (digit-of c) 16 then digit-of c else 128
+
+pub record DigitValues (table : List ℕ) : Type 0 where
+  pub size : length table ≡ 256
+  pub value : (c : ℕ) → c < 256 → getD table c 0 ≡ marked c
+
+-- a number that was found is that of the 8 digits at `at`
+abbrev pub WordAt : List ℕ → ℕ → Value → Type 0
+WordAt chunk at No = Unit {0}
+WordAt chunk at (Is w) = number-at chunk at 8 ≡ Is w
 
 -- at i stand `20`, the 8 digits of w, and an LF
 pub record Written (chunk : List ℕ) (i w : ℕ) : Type 0 where

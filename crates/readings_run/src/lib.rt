@@ -1,6 +1,5 @@
 // Runs of readings. Most lines of a recording are readings of the open call: they are read in one loop, and the reader's state is made once behind them.
 use frames_text::digits::Value;
-use frames_text::digits::number;
 use reader::Part;
 use reader::State;
 use reader::turns::next_line;
@@ -9,10 +8,10 @@ use session::Open;
 use session::Wants;
 use session::is_complete;
 ghost use mathlib.Core.Path.{_≡_};
-ghost use Prim.Native.Nat.{_≤_};
+ghost use Prim.Native.Nat.{_+_, _≤_};
 ghost use lib.ListN.{length};
 ghost use Rattle.calls.specs.Calls.{MOST-READINGS};
-ghost use Rattle.readings_run.specs.Run.{ReadingAt, Run, RanAs, ready-of, state-after};
+ghost use Rattle.readings_run.specs.Run.{DigitValues, marked, WordAt, ReadingAt, Run, RanAs, ready-of, state-after};
 
 // Where a run ends in the chunk, how many readings the call has then, and the number of the next line.
 pub struct Ran {
@@ -21,9 +20,39 @@ pub struct Ran {
     pub line: u32,
 }
 
+// The value of a digit, from a table, and 128 of every other byte.
+fn digit_in(values: &[u8], c: u8) -> u64
+    requires { ⌜ DigitValues (now values) ⌝ }
+    ensures { λ r. ⌜ (r ≡ marked c) × (r ≤ 128) ⌝ }
+{
+    let at = c as usize;
+    values[at] as u64
+}
+
+// The number in 8 bytes from `at` on, if they are digits: 8 digits make less than 128 together.
+fn word(values: &[u8], chunk: &[u8], at: usize) -> Value
+    requires { ⌜ DigitValues (now values) × (at + 8 ≤ length (now chunk)) ⌝ }
+    ensures { λ r. ⌜ WordAt (now (chunk .entry)) at r ⌝ }
+{
+    let a = digit_in(values, chunk[at]);
+    let b = digit_in(values, chunk[at + 1]);
+    let c = digit_in(values, chunk[at + 2]);
+    let d = digit_in(values, chunk[at + 3]);
+    let e = digit_in(values, chunk[at + 4]);
+    let f = digit_in(values, chunk[at + 5]);
+    let g = digit_in(values, chunk[at + 6]);
+    let h = digit_in(values, chunk[at + 7]);
+    let high = (a * 16 + b) * 256 + (c * 16 + d);
+    let low = (e * 16 + f) * 256 + (g * 16 + h);
+    if a + b + c + d + (e + f + g + h) < 128 {
+        return Value::Is((high * 65536 + low) as u32);
+    }
+    Value::No
+}
+
 // The word of the reading whose line begins at i, if one does.
-fn reading_at(chunk: &[u8], i: usize) -> Value
-    requires { ⌜ i ≤ length (now chunk) ⌝ }
+fn reading_at(values: &[u8], chunk: &[u8], i: usize) -> Value
+    requires { ⌜ DigitValues (now values) × (i ≤ length (now chunk)) ⌝ }
     ensures { λ r. ⌜ ReadingAt (now (chunk .entry)) i r ⌝ }
 {
     let left = chunk.len() - i;
@@ -33,7 +62,7 @@ fn reading_at(chunk: &[u8], i: usize) -> Value
     if chunk[i] == 50 {
         if chunk[i + 1] == 48 {
             if chunk[i + 10] == 10 {
-                return number(chunk, i + 2, 8);
+                return word(values, chunk, i + 2);
             }
         }
     }
@@ -41,15 +70,22 @@ fn reading_at(chunk: &[u8], i: usize) -> Value
 }
 
 // Reads readings from i on, as long as they come and the call may have more.
-fn run(chunk: &[u8], i: usize, first: usize, number: u32, readings: &mut [u32]) -> Ran
-    requires { ⌜ (i ≤ length (now chunk)) × (length (now readings) ≡ MOST-READINGS) ⌝ }
+fn run_by(
+    values: &[u8],
+    chunk: &[u8],
+    i: usize,
+    first: usize,
+    number: u32,
+    readings: &mut [u32],
+) -> Ran
+    requires { ⌜ DigitValues (now values) × (i ≤ length (now chunk)) × (length (now readings) ≡ MOST-READINGS) ⌝ }
     ensures { λ r. ⌜ Run (now (chunk .entry)) i first number (now (readings .entry)) (r .used) (r .count) (r .line) (now (readings .exit)) ⌝ }
 {
     let mut used = i;
     let mut count = first;
     let mut line = number;
     while count < calls::MOST_READINGS {
-        match reading_at(chunk, used) {
+        match reading_at(values, chunk, used) {
             Value::Is(w) => {
                 readings[count] = w;
                 count += 1;
@@ -60,6 +96,36 @@ fn run(chunk: &[u8], i: usize, first: usize, number: u32, readings: &mut [u32]) 
         }
     }
     Ran { used, count, line }
+}
+
+// The same, with the table, which is made once for the whole run: a constant is stored anew wherever it is used.
+fn run(chunk: &[u8], i: usize, first: usize, number: u32, readings: &mut [u32]) -> Ran
+    requires { ⌜ (i ≤ length (now chunk)) × (length (now readings) ≡ MOST-READINGS) ⌝ }
+    ensures { λ r. ⌜ Run (now (chunk .entry)) i first number (now (readings .entry)) (r .used) (r .count) (r .line) (now (readings .exit)) ⌝ }
+{
+    run_by(
+        b"\x80\x80\x80\x80\x80\x80\x80\x80\x80\x80\x80\x80\x80\x80\x80\x80\
+          \x80\x80\x80\x80\x80\x80\x80\x80\x80\x80\x80\x80\x80\x80\x80\x80\
+          \x80\x80\x80\x80\x80\x80\x80\x80\x80\x80\x80\x80\x80\x80\x80\x80\
+          \x00\x01\x02\x03\x04\x05\x06\x07\x08\x09\x80\x80\x80\x80\x80\x80\
+          \x80\x0A\x0B\x0C\x0D\x0E\x0F\x80\x80\x80\x80\x80\x80\x80\x80\x80\
+          \x80\x80\x80\x80\x80\x80\x80\x80\x80\x80\x80\x80\x80\x80\x80\x80\
+          \x80\x80\x80\x80\x80\x80\x80\x80\x80\x80\x80\x80\x80\x80\x80\x80\
+          \x80\x80\x80\x80\x80\x80\x80\x80\x80\x80\x80\x80\x80\x80\x80\x80\
+          \x80\x80\x80\x80\x80\x80\x80\x80\x80\x80\x80\x80\x80\x80\x80\x80\
+          \x80\x80\x80\x80\x80\x80\x80\x80\x80\x80\x80\x80\x80\x80\x80\x80\
+          \x80\x80\x80\x80\x80\x80\x80\x80\x80\x80\x80\x80\x80\x80\x80\x80\
+          \x80\x80\x80\x80\x80\x80\x80\x80\x80\x80\x80\x80\x80\x80\x80\x80\
+          \x80\x80\x80\x80\x80\x80\x80\x80\x80\x80\x80\x80\x80\x80\x80\x80\
+          \x80\x80\x80\x80\x80\x80\x80\x80\x80\x80\x80\x80\x80\x80\x80\x80\
+          \x80\x80\x80\x80\x80\x80\x80\x80\x80\x80\x80\x80\x80\x80\x80\x80\
+          \x80\x80\x80\x80\x80\x80\x80\x80\x80\x80\x80\x80\x80\x80\x80\x80",
+        chunk,
+        i,
+        first,
+        number,
+        readings,
+    )
 }
 
 // Whether a line begins and may be a reading.

@@ -1,9 +1,9 @@
 -- `readings_run::reading_at` meets its contract.
 use borrow.Author.Needs.{needs}
-use native.Mathlib.Omega.{arith}
-use Rattle.readings_run.proofs.Readings.{found}
 use Rattle.readings_run.proofs.reading_at.Statement.{statement}
 use Rattle.readings_run.proofs.reading_at.Tie as tie
+use native.Mathlib.Omega.{arith}
+use Rattle.readings_run.proofs.Readings.{found}
 
 sub-left : tie.Need-sub-left
 sub-left c = search needs
@@ -26,14 +26,14 @@ add-if4 c = search needs
 shared-slice-read-if4 : tie.Need-shared-slice-read-if4
 shared-slice-read-if4 c = search needs
 
-add-number : tie.Need-add-number
-add-number c = search needs
+add-word : tie.Need-add-word
+add-word c = search needs
 
-number-requires : tie.Need-number-requires
-number-requires c κs = search needs
+word-requires : tie.Need-word-requires
+word-requires c κs = search needs
 
 returns-2 : tie.Need-returns-2
-returns-2 c = found _ (c .before .before .before .before .before .before .before .before .before .args .i) _ (c .number .ensures) (c .before .before .before .before .before .if2 .taken) (c .before .before .before .if3 .taken) (c .before .if4 .taken) (omega (arith, c .before .before .before .before .before .before .before .if1 .left))
+returns-2 c = found (c .before .before .before .before .before .before .before .before .before .before .args .chunk .now) (c .before .before .before .before .before .before .before .before .before .before .args .i) (c .word .result) (c .word .ensures) (c .before .before .before .before .before .if2 .taken) (c .before .before .before .if3 .taken) (c .before .if4 .taken) (omega (arith, c .before .before .before .before .before .before .before .if1 .left))
 
 returns-3 : tie.Need-returns-3
 returns-3 c = search needs
@@ -55,8 +55,8 @@ reading-at-spec =
     shared-slice-read-if3
     add-if4
     shared-slice-read-if4
-    add-number
-    number-requires
+    add-word
+    word-requires
     returns-2
     returns-3
     returns-4

@@ -1,82 +1,25 @@
 -- `readings_run::run` meets its contract.
 use borrow.Author.Needs.{needs}
-use Prim.Native.Nat.{_-_}
-use native.Mathlib.Omega.{arith}
-use Rattle.calls.specs.Calls.{MOST-READINGS}
-use Rattle.readings_run.specs.Run.{Run}
-use Rattle.readings_run.proofs.Runs.{run-none, run-more}
 use Rattle.readings_run.proofs.run.Statement.{statement}
 use Rattle.readings_run.proofs.run.Tie as tie
+use mathlib.Core.Path.{refl}
+use Rattle.frames_text.specs.Text.{digit-of}
+use Rattle.frames_text.proofs.Tables.{every}
+use Rattle.readings_run.specs.Run.{marked}
+use Rattle.readings_run.proofs.Words.{digit-values}
 
-abbrev Inv-loop : tie.InvT-loop
-Inv-loop chunk i first number readings₀ used₀ count₀ line₀ readings used count line = Run chunk i first number readings₀ used count line readings
+slice-aggregate-run-by : tie.Need-slice-aggregate-run-by
+slice-aggregate-run-by c = search needs
 
-abbrev μ-loop : tie.MeasureT-loop
-μ-loop chunk i first number readings₀ used₀ count₀ line₀ readings used count line = MOST-READINGS - count
+run-by-requires : tie.Need-run-by-requires
+unfolding every marked digit-of
+run-by-requires c κs = (digit-values _ refl refl, search needs, search needs)
 
-loop-holds : tie.Need-loop-holds Inv-loop μ-loop
-loop-holds c = run-none _ _ _ _ _ (c .before .before .pre .0) (c .before .before .pre .1)
+same-length : tie.Need-same-length
+same-length c = search needs
 
-reading-at-requires : tie.Need-reading-at-requires Inv-loop μ-loop
-reading-at-requires c κs = search needs
-
-enum-known-w : tie.Need-enum-known-w Inv-loop μ-loop
-enum-known-w c = search needs
-
-mul-readings : tie.Need-mul-readings Inv-loop μ-loop
-mul-readings c = search needs
-
-slice-write-readings : tie.Need-slice-write-readings Inv-loop μ-loop
-slice-write-readings c = search needs
-
-add-count : tie.Need-add-count Inv-loop μ-loop
-add-count c = search needs
-
-next-line-requires : tie.Need-next-line-requires Inv-loop μ-loop
-next-line-requires c κs = search needs
-
-add-used : tie.Need-add-used Inv-loop μ-loop
-add-used c = search needs
-
-loop-less : tie.Need-loop-less Inv-loop μ-loop
-loop-less c = search needs
-
-loop-again : tie.Need-loop-again Inv-loop μ-loop
-loop-again c = rw (c .next-line .ensures) (run-more (c .before .before .before .before .before .before .loop .inv) _ (rw (c .before .before .w .given .1) at (c .before .before .before .before .reading-at .ensures)) (c .before .before .before .before .before .loop-test .taken))
-
-enum-told : tie.Need-enum-told Inv-loop μ-loop
-enum-told c = search needs
-
-same-length : tie.Need-same-length Inv-loop μ-loop
-same-length c = omega (arith, c .before .before .before .before .loop .inv .size, c .before .before .before .before .before .before .before .pre .1)
-
-returns : tie.Need-returns Inv-loop μ-loop
-returns c = c .before .before .before .before .loop .inv
-
-same-length-2 : tie.Need-same-length-2 Inv-loop μ-loop
-same-length-2 c = omega (arith, c .before .loop .inv .size, c .before .before .before .before .pre .1)
-
-returns-2 : tie.Need-returns-2 Inv-loop μ-loop
-returns-2 c = c .before .loop .inv
+returns : tie.Need-returns
+returns c = search needs
 
 pub run-spec : {M : Type 1} → statement M
-run-spec =
-    tie.close
-    (tie.spec
-    Inv-loop
-    μ-loop
-    loop-holds
-    reading-at-requires
-    enum-known-w
-    mul-readings
-    slice-write-readings
-    add-count
-    next-line-requires
-    add-used
-    loop-less
-    loop-again
-    enum-told
-    same-length
-    returns
-    same-length-2
-    returns-2)
+run-spec = tie.close (tie.spec slice-aggregate-run-by run-by-requires same-length returns)

@@ -1,19 +1,20 @@
 -- `frames_text::digits::all_digits` meets its contract.
-use borrow.Author.Needs.{needs}
+use Rattle.frames_text.proofs.digits.all_digits.Statement.{statement}
+use Rattle.frames_text.proofs.digits.all_digits.Tie as tie
 use mathlib.Core.Path.{_≡_, sym, _∙_}
+use mathlib.Core.Bool.{_&&_}
 use Prim.Native.Nat.{_-_, _≤_}
 use native.Mathlib.Omega.{arith}
 use lib.ListN.{length, drop}
 use Rattle.frames_text.specs.Pairs.{all-digits}
-use Rattle.frames_text.proofs.Pairs.{no-digit, a-digit, digits-end}
-use Rattle.frames_text.proofs.digits.all_digits.Statement.{statement}
-use Rattle.frames_text.proofs.digits.all_digits.Tie as tie
+use Rattle.frames_text.proofs.Pairs.{digit-more, digits-end}
+use borrow.Author.Needs.{needs}
 
 abbrev Inv-loop : tie.InvT-loop
-Inv-loop ds i₀ i = (all-digits (drop i ds) ≡ all-digits ds) × (i ≤ length ds)
+Inv-loop ds so-far₀ i₀ so-far i = (so-far && all-digits (drop i ds) ≡ all-digits ds) × (i ≤ length ds)
 
 abbrev μ-loop : tie.MeasureT-loop
-μ-loop ds i₀ i = length ds - i
+μ-loop ds so-far₀ i₀ so-far i = length ds - i
 
 loop-holds : tie.Need-loop-holds Inv-loop μ-loop
 loop-holds c = search needs
@@ -24,9 +25,6 @@ shared-slice-read-digit c = search needs
 digit-requires : tie.Need-digit-requires Inv-loop μ-loop
 digit-requires c κs = search needs
 
-returns : tie.Need-returns Inv-loop μ-loop
-returns c = sym (sym (c .before .before .before .before .loop .inv .0) ∙ no-digit _ _ (c .before .before .before .loop-test .taken) (omega (arith, c .before .digit .ensures, c .if1 .taken)))
-
 add-i : tie.Need-add-i Inv-loop μ-loop
 add-i c = search needs
 
@@ -34,10 +32,10 @@ loop-less : tie.Need-loop-less Inv-loop μ-loop
 loop-less c = search needs
 
 loop-again : tie.Need-loop-again Inv-loop μ-loop
-loop-again c = (sym (a-digit _ _ (c .before .before .before .loop-test .taken) (omega (arith, c .before .digit .ensures, c .if1 .left))) ∙ c .before .before .before .before .loop .inv .0, omega arith)
+loop-again c = (digit-more (c .before .before .before .loop .so-far) (c .before .before .before .before .before .args .ds .now) (c .before .before .before .loop .i) (c .before .before .loop-test .taken) (c .digit .ensures) ∙ c .before .before .before .loop .inv .0, omega arith)
 
-returns-2 : tie.Need-returns-2 Inv-loop μ-loop
-returns-2 c = let l = c .before .loop in sym (sym (l .inv .0) ∙ digits-end (c .before .before .before .args .ds .now) (l .i) (omega (arith, c .loop-test .left)))
+returns : tie.Need-returns Inv-loop μ-loop
+returns c = sym (digits-end (c .before .loop .so-far) (c .before .before .before .args .ds .now) (c .before .loop .i) (c .loop-test .left)) ∙ c .before .loop .inv .0
 
 pub all-digits-spec : {M : Type 1} → statement M
 all-digits-spec =
@@ -48,8 +46,7 @@ all-digits-spec =
     loop-holds
     shared-slice-read-digit
     digit-requires
-    returns
     add-i
     loop-less
     loop-again
-    returns-2)
+    returns)

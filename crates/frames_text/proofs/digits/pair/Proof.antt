@@ -1,52 +1,52 @@
 -- `frames_text::digits::pair` meets its contract.
-use Rattle.frames_text.proofs.Pairs.{pair-digits, value-at}
-use mathlib.Core.Path.{sym}
-use native.Mathlib.Omega.{arith}
 use borrow.Author.Needs.{needs}
 use Rattle.frames_text.proofs.digits.pair.Statement.{statement}
 use Rattle.frames_text.proofs.digits.pair.Tie as tie
+use mathlib.Core.Path.{sym}
+use native.Mathlib.Omega.{arith}
+use Rattle.frames_text.proofs.Pairs.{pair-digits, value-at}
 
-mul-digit : tie.Need-mul-digit
-mul-digit c = search needs
+mul-digit-value : tie.Need-mul-digit-value
+mul-digit-value c = search needs
 
-shared-slice-read-digit : tie.Need-shared-slice-read-digit
-shared-slice-read-digit c = search needs
+shared-slice-read-digit-value : tie.Need-shared-slice-read-digit-value
+shared-slice-read-digit-value c = search needs
 
-digit-requires : tie.Need-digit-requires
-digit-requires c κs = search needs
+digit-value-requires : tie.Need-digit-value-requires
+digit-value-requires c κs = pair-digits (c .before .before .args .ds .now) (c .before .before .args .i) (c .before .before .pre .0) (c .before .before .pre .1) .0
 
-mul-digit-2 : tie.Need-mul-digit-2
-mul-digit-2 c = search needs
+mul-digit-value-2 : tie.Need-mul-digit-value-2
+mul-digit-value-2 c = search needs
 
-add-digit : tie.Need-add-digit
-add-digit c = search needs
+add-digit-value : tie.Need-add-digit-value
+add-digit-value c = search needs
 
-shared-slice-read-digit-2 : tie.Need-shared-slice-read-digit-2
-shared-slice-read-digit-2 c = search needs
+shared-slice-read-digit-value-2 : tie.Need-shared-slice-read-digit-value-2
+shared-slice-read-digit-value-2 c = search needs
 
-digit-requires-2 : tie.Need-digit-requires-2
-digit-requires-2 c κs = search needs
+digit-value-requires-2 : tie.Need-digit-value-requires-2
+digit-value-requires-2 c κs = pair-digits (c .before .before .before .before .args .ds .now) (c .before .before .before .before .args .i) (c .before .before .before .before .pre .0) (c .before .before .before .before .pre .1) .1
 
 mul-result : tie.Need-mul-result
-mul-result c = let a = c .before .before .before .before .before .args in omega (arith, c .before .before .digit .ensures, pair-digits (a .ds .now) (a .i) (c .before .before .before .before .before .pre .0) (c .before .before .before .before .before .pre .1))
+mul-result c = omega (arith, c .before .before .digit-value .ensures, pair-digits (c .before .before .before .before .before .args .ds .now) (c .before .before .before .before .before .args .i) (c .before .before .before .before .before .pre .0) (c .before .before .before .before .before .pre .1))
 
 add-result : tie.Need-add-result
-add-result c = let a = c .before .before .before .before .before .args in omega (arith, c .before .before .digit .ensures, c .digit2 .ensures, pair-digits (a .ds .now) (a .i) (c .before .before .before .before .before .pre .0) (c .before .before .before .before .before .pre .1))
+add-result c = omega (arith, c .before .before .digit-value .ensures, c .digit-value2 .ensures, pair-digits (c .before .before .before .before .before .args .ds .now) (c .before .before .before .before .before .args .i) (c .before .before .before .before .before .pre .0) (c .before .before .before .before .before .pre .1))
 
 returns : tie.Need-returns
-returns c = let a = c .before .before .before .before .before .args in rw (c .before .before .digit .ensures, c .digit2 .ensures) (sym (value-at (a .ds .now) (a .i) (c .before .before .before .before .before .pre .1)))
+returns c = rw (c .before .before .digit-value .ensures, c .digit-value2 .ensures) (sym (value-at (c .before .before .before .before .before .args .ds .now) (c .before .before .before .before .before .args .i) (c .before .before .before .before .before .pre .1)))
 
 pub pair-spec : {M : Type 1} → statement M
 pair-spec =
     tie.close
     (tie.spec
-    mul-digit
-    shared-slice-read-digit
-    digit-requires
-    mul-digit-2
-    add-digit
-    shared-slice-read-digit-2
-    digit-requires-2
+    mul-digit-value
+    shared-slice-read-digit-value
+    digit-value-requires
+    mul-digit-value-2
+    add-digit-value
+    shared-slice-read-digit-value-2
+    digit-value-requires-2
     mul-result
     add-result
     returns)

@@ -1,11 +1,11 @@
 -- `frames_text::digits::put_bytes` meets its contract.
-use borrow.Author.Needs.{needs}
+use Rattle.frames_text.proofs.digits.put_bytes.Statement.{statement}
+use Rattle.frames_text.proofs.digits.put_bytes.Tie as tie
 use native.Mathlib.Omega.{arith}
 use lib.ListN.{length}
 use Prim.Native.Nat.{_-_, _/_}
-use Rattle.frames_text.proofs.Pairs.{Putting, none-put, one-put, all-put}
-use Rattle.frames_text.proofs.digits.put_bytes.Statement.{statement}
-use Rattle.frames_text.proofs.digits.put_bytes.Tie as tie
+use Rattle.frames_text.proofs.Pairs.{Putting, none-put, not-put, one-put, all-put}
+use borrow.Author.Needs.{needs}
 
 abbrev Inv-loop : tie.InvT-loop
 Inv-loop ds bytes₀ at n i₀ bytes i = Putting ds at bytes₀ bytes i
@@ -13,17 +13,23 @@ Inv-loop ds bytes₀ at n i₀ bytes i = Putting ds at bytes₀ bytes i
 abbrev μ-loop : tie.MeasureT-loop
 μ-loop ds bytes₀ at n i₀ bytes i = length ds / 2 - i
 
+add-if1 : tie.Need-add-if1 Inv-loop μ-loop
+add-if1 c = search needs
+
+returns : tie.Need-returns Inv-loop μ-loop
+returns c = not-put _ _ _ (c .if1 .taken)
+
 loop-holds : tie.Need-loop-holds Inv-loop μ-loop
 loop-holds c = none-put _ _ _
-
-add-put : tie.Need-add-put Inv-loop μ-loop
-add-put c = search needs
 
 pair-requires : tie.Need-pair-requires Inv-loop μ-loop
 pair-requires c κs = search needs
 
-put-requires : tie.Need-put-requires Inv-loop μ-loop
-put-requires c κs = search needs
+add-bytes : tie.Need-add-bytes Inv-loop μ-loop
+add-bytes c = search needs
+
+slice-write-bytes : tie.Need-slice-write-bytes Inv-loop μ-loop
+slice-write-bytes c = omega (arith, c .before .before .loop .inv .size, c .before .loop-test .taken, c .before .before .before .if1 .left)
 
 add-i : tie.Need-add-i Inv-loop μ-loop
 add-i c = search needs
@@ -32,13 +38,13 @@ loop-less : tie.Need-loop-less Inv-loop μ-loop
 loop-less c = search needs
 
 loop-again : tie.Need-loop-again Inv-loop μ-loop
-loop-again c = rw (c .before .before .put .ensures) (one-put (c .before .before .before .before .before .before .loop .inv) _ (c .before .before .before .before .before .loop-test .taken) (c .before .before .before .pair .ensures))
+loop-again c = one-put (c .before .before .loop .inv) _ (c .before .loop-test .taken) (c .pair .ensures)
 
 same-length : tie.Need-same-length Inv-loop μ-loop
 same-length c = c .before .loop .inv .size
 
-returns : tie.Need-returns Inv-loop μ-loop
-returns c = all-put (c .before .loop .inv) (omega (arith, c .loop-test .left))
+returns-2 : tie.Need-returns-2 Inv-loop μ-loop
+returns-2 c = all-put (c .before .loop .inv) (omega (arith, c .loop-test .left))
 
 pub put-bytes-spec : {M : Type 1} → statement M
 put-bytes-spec =
@@ -46,12 +52,14 @@ put-bytes-spec =
     (tie.spec
     Inv-loop
     μ-loop
+    add-if1
+    returns
     loop-holds
-    add-put
     pair-requires
-    put-requires
+    add-bytes
+    slice-write-bytes
     add-i
     loop-less
     loop-again
     same-length
-    returns)
+    returns-2)

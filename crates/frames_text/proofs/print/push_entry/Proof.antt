@@ -1,30 +1,12 @@
 -- `frames_text::print::push_entry` meets its contract.
-use Rattle.frames_text.specs.Print.{entry-text}
-use borrow.Author.Tests.{eq-eqb, ne-eqb}
 use borrow.Author.Needs.{needs}
 use Rattle.frames_text.proofs.print.push_entry.Statement.{statement}
 use Rattle.frames_text.proofs.print.push_entry.Tie as tie
+use borrow.Author.Tests.{eq-eqb, ne-eqb}
+use Rattle.frames_text.proofs.Entries.{mark-text, access-text}
 
-enum-known-e : tie.Need-enum-known-e
-enum-known-e c = search needs
-
-cast-push-word : tie.Need-cast-push-word
-cast-push-word c = search needs
-
-push-word-requires : tie.Need-push-word-requires
-push-word-requires c κs = search needs
-
-enum-known-e-2 : tie.Need-enum-known-e-2
-enum-known-e-2 c = search needs
-
-cast-push-word-2 : tie.Need-cast-push-word-2
-cast-push-word-2 c = search needs
-
-push-word-requires-2 : tie.Need-push-word-requires-2
-push-word-requires-2 c κs = search needs
-
-enum-known-e-3 : tie.Need-enum-known-e-3
-enum-known-e-3 c = search needs
+show-requires : tie.Need-show-requires
+show-requires c κs = search needs
 
 push-plain-requires : tie.Need-push-plain-requires
 push-plain-requires c κs = search needs
@@ -33,8 +15,7 @@ same-length : tie.Need-same-length
 same-length c = search needs
 
 returns : tie.Need-returns
-unfolding entry-text
-returns c = rw (c .before .before .before .before .before .before .e3 .given .1, eq-eqb _ _ (c .before .before .before .before .if1 .taken)) (c .before .before .push-plain .ensures)
+returns c = rw (mark-text (c .before .before .before .before .before .before .before .before .before .before .before .args .e) (c .before .before .before .before .before .before .before .before .show .ensures) (c .before .before .before .before .before .before .if1 .taken), eq-eqb _ _ (c .before .before .before .before .if2 .taken)) (c .before .before .push-plain .ensures)
 
 push-plain-requires-2 : tie.Need-push-plain-requires-2
 push-plain-requires-2 c κs = search needs
@@ -43,41 +24,32 @@ same-length-2 : tie.Need-same-length-2
 same-length-2 c = search needs
 
 returns-2 : tie.Need-returns-2
-unfolding entry-text
-returns-2 c = rw (c .before .before .before .before .before .e .given .1) (c .before .before .push-word .ensures)
+returns-2 c = rw (mark-text (c .before .before .before .before .before .before .before .before .before .before .before .args .e) (c .before .before .before .before .before .before .before .before .show .ensures) (c .before .before .before .before .before .before .if1 .taken), ne-eqb _ _ (c .before .before .before .before .if2 .left)) (c .before .before .push-plain2 .ensures)
+
+wide-requires : tie.Need-wide-requires
+wide-requires c κs = search needs
+
+copy-word-requires : tie.Need-copy-word-requires
+copy-word-requires c κs = search needs
 
 same-length-3 : tie.Need-same-length-3
 same-length-3 c = search needs
 
 returns-3 : tie.Need-returns-3
-unfolding entry-text
-returns-3 c = rw (c .before .before .before .before .before .e2 .given .1) (c .before .before .push-word2 .ensures)
-
-same-length-4 : tie.Need-same-length-4
-same-length-4 c = search needs
-
-returns-4 : tie.Need-returns-4
-unfolding entry-text
-returns-4 c = rw (c .before .before .before .before .before .before .e3 .given .1, ne-eqb _ _ (c .before .before .before .before .if1 .left)) (c .before .before .push-plain2 .ensures)
+returns-3 c = rw (access-text (c .before .before .before .before .before .before .before .before .before .before .args .e) (c .before .before .before .before .before .before .before .show .ensures) (c .before .before .before .before .before .if1 .left), ← c .before .before .before .wide .ensures) (c .before .before .copy-word .ensures)
 
 pub push-entry-spec : {M : Type 1} → statement M
 push-entry-spec =
     tie.close
     (tie.spec
-    enum-known-e
-    cast-push-word
-    push-word-requires
-    enum-known-e-2
-    cast-push-word-2
-    push-word-requires-2
-    enum-known-e-3
+    show-requires
     push-plain-requires
     same-length
     returns
     push-plain-requires-2
     same-length-2
     returns-2
+    wide-requires
+    copy-word-requires
     same-length-3
-    returns-3
-    same-length-4
-    returns-4)
+    returns-3)

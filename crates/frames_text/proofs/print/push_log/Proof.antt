@@ -1,77 +1,24 @@
 -- `frames_text::print::push_log` meets its contract.
-use Rattle.frames_text.proofs.Entries.{Printing, none, more, all}
 use borrow.Author.Needs.{needs}
-use Prim.Native.Nat.{_-_}
-use native.Mathlib.Omega.{arith}
-use Rattle.frames_text.proofs.Entries.{Printing, more, all}
 use Rattle.frames_text.proofs.print.push_log.Statement.{statement}
 use Rattle.frames_text.proofs.print.push_log.Tie as tie
+use mathlib.Core.Path.{refl}
+use Rattle.frames_text.specs.Text.{char-of}
+use Rattle.frames_text.proofs.Tables.{every, digit-at, digit-pairs}
 
-abbrev Inv-loop : tie.InvT-loop
-Inv-loop out₀ at log n end₀ i₀ out end i = Printing out₀ at log n out end i
+slice-aggregate-push-entries : tie.Need-slice-aggregate-push-entries
+slice-aggregate-push-entries c = search needs
 
-abbrev μ-loop : tie.MeasureT-loop
-μ-loop out₀ at log n end₀ i₀ out end i = n - i
+push-entries-requires : tie.Need-push-entries-requires
+unfolding every digit-at char-of
+push-entries-requires c κs = (search needs, search needs, digit-pairs _ refl refl)
 
-loop-holds : tie.Need-loop-holds Inv-loop μ-loop
-loop-holds c = none _ _ _ _
+same-length : tie.Need-same-length
+same-length c = search needs
 
-mul-k : tie.Need-mul-k Inv-loop μ-loop
-mul-k c = search needs
-
-mul-entry-of : tie.Need-mul-entry-of Inv-loop μ-loop
-mul-entry-of c = search needs
-
-shared-slice-read-entry-of : tie.Need-shared-slice-read-entry-of Inv-loop μ-loop
-shared-slice-read-entry-of c = search needs
-
-add-entry-of : tie.Need-add-entry-of Inv-loop μ-loop
-add-entry-of c = search needs
-
-mul-entry-of-2 : tie.Need-mul-entry-of-2 Inv-loop μ-loop
-mul-entry-of-2 c = search needs
-
-shared-slice-read-entry-of-2 : tie.Need-shared-slice-read-entry-of-2 Inv-loop μ-loop
-shared-slice-read-entry-of-2 c = search needs
-
-entry-of-requires : tie.Need-entry-of-requires Inv-loop μ-loop
-entry-of-requires c κs = search needs
-
-push-entry-requires : tie.Need-push-entry-requires Inv-loop μ-loop
-push-entry-requires c κs = omega (arith, c .before .before .before .before .before .loop .inv .room, c .before .before .before .before .before .loop .inv .size, c .before .before .before .before .before .before .before .before .pre .0, c .before .before .before .before .loop-test .taken)
-
-add-i : tie.Need-add-i Inv-loop μ-loop
-add-i c = search needs
-
-loop-less : tie.Need-loop-less Inv-loop μ-loop
-loop-less c = search needs
-
-loop-again : tie.Need-loop-again Inv-loop μ-loop
-loop-again c = more (c .before .before .before .before .before .before .before .before .loop .inv) (c .before .before .before .before .before .before .before .before .before .before .before .pre .1) (c .before .before .before .before .before .before .before .loop-test .taken) (c .before .before .before .before .entry-of .ensures) (c .before .before .push-entry .ensures) (c .before .before .push-entry .kept .0)
-
-same-length : tie.Need-same-length Inv-loop μ-loop
-same-length c = c .before .loop .inv .size
-
-returns : tie.Need-returns Inv-loop μ-loop
-returns c = all (c .before .loop .inv) (c .before .before .before .before .pre .1) (c .loop-test .left)
+returns : tie.Need-returns
+returns c = search needs
 
 pub push-log-spec : {M : Type 1} → statement M
 push-log-spec =
-    tie.close
-    (tie.spec
-    Inv-loop
-    μ-loop
-    loop-holds
-    mul-k
-    mul-entry-of
-    shared-slice-read-entry-of
-    add-entry-of
-    mul-entry-of-2
-    shared-slice-read-entry-of-2
-    entry-of-requires
-    push-entry-requires
-    add-i
-    loop-less
-    loop-again
-    same-length
-    returns)
+    tie.close (tie.spec slice-aggregate-push-entries push-entries-requires same-length returns)

@@ -1,0 +1,2 @@
+-- What a run of bytes leads to.
+pub mod Bytes
