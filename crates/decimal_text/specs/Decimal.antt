@@ -8,7 +8,3 @@ use Rattle.regs.specs.Program.{if_then_else_}
 unfoldable pub digits : ℕ → ℕ → List ℕ
 digits zero n = []
 digits (suc k) n = if ltb n 10 then (n + 48) ∷ [] else digits k (n / 10) ++ ((n % 10 + 48) ∷ [])
-
--- a word of 32 bits has at most ten
-abbrev pub decimal : ℕ → List ℕ
-decimal n = digits 10 n

@@ -1,10 +1,10 @@
-// Numbers in decimal digits. Each function puts its text at `at` of a lent buffer and returns where the text ends.
+// Numbers in decimal digits, put at `at` of a lent buffer.
 use frames_text::print::push;
 ghost use Prim.Native.Nat.{_+_, _≤_, _<_};
 ghost use mathlib.Core.Path.{_≡_};
 ghost use lib.ListN.{length};
 ghost use Rattle.frames_text.specs.Appended.{Appended};
-ghost use Rattle.decimal_text.specs.Decimal.{digits, decimal};
+ghost use Rattle.decimal_text.specs.Decimal.{digits};
 
 // The character of a digit.
 fn digit(d: u32) -> u8
@@ -14,8 +14,8 @@ fn digit(d: u32) -> u8
     (d + 48) as u8
 }
 
-// The last k digits at most: those of the tenth first, then the one that is left over.
-fn push_digits(out: &mut [u8], at: usize, k: usize, n: u32) -> usize
+// The last k digits at most: those of the tenth first, then the one that is left over. Says where they end.
+pub fn push_digits(out: &mut [u8], at: usize, k: usize, n: u32) -> usize
     requires { ⌜ at + k ≤ length (now out) ⌝ }
     ensures { λ r. ⌜ Appended (now (out .entry)) at (digits k n) k (now (out .exit)) r ⌝ }
 {
@@ -27,11 +27,4 @@ fn push_digits(out: &mut [u8], at: usize, k: usize, n: u32) -> usize
     }
     let a = push_digits(out, at, k - 1, n / 10);
     push(out, a, digit(n % 10))
-}
-
-pub fn push_decimal(out: &mut [u8], at: usize, n: u32) -> usize
-    requires { ⌜ at + 10 ≤ length (now out) ⌝ }
-    ensures { λ r. ⌜ Appended (now (out .entry)) at (decimal n) 10 (now (out .exit)) r ⌝ }
-{
-    push_digits(out, at, 10, n)
 }
