@@ -11,7 +11,7 @@ ghost use Rattle.explain_bus.specs.Line.{name-text, direction-letter, ru
 ghost use Rattle.explain_bus.specs.Words.{kind-text, word-text, words-text, words-line};
 
 // START, RESTART or STOP.
-fn push_name(out: &mut [u8], at: usize, row: usize) -> usize
+pub fn push_name(out: &mut [u8], at: usize, row: usize) -> usize
     requires { ⌜ (at + 9 ≤ length (now out)) × (row < 3) ⌝ }
     ensures { λ r. ⌜ Appended (now (out .entry)) at (name-text row) 9 (now (out .exit)) r ⌝ }
 {
@@ -24,7 +24,7 @@ fn letter(b: u32) -> u8
     if b % 2 == 0 { b'w' } else { b'r' }
 }
 
-fn push_kind(out: &mut [u8], at: usize, kind: u32, value: u32) -> usize
+pub fn push_kind(out: &mut [u8], at: usize, kind: u32, value: u32) -> usize
     requires { ⌜ at + 9 ≤ length (now out) ⌝ }
     ensures { λ r. ⌜ Appended (now (out .entry)) at (kind-text kind value) 9 (now (out .exit)) r ⌝ }
 {
@@ -47,7 +47,7 @@ fn push_kind(out: &mut [u8], at: usize, kind: u32, value: u32) -> usize
 }
 
 // The count of a run of read slots.
-fn push_run(out: &mut [u8], at: usize, run: u32) -> usize
+pub fn push_run(out: &mut [u8], at: usize, run: u32) -> usize
     requires { ⌜ at + 8 * run ≤ length (now out) ⌝ }
     ensures { λ r. ⌜ Appended (now (out .entry)) at (run-text run) (8 * run) (now (out .exit)) r ⌝ }
 {
