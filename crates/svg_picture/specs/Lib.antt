@@ -1,0 +1,1 @@
+-- The picture is defined in svg_text's `Picture`.
