@@ -3,7 +3,7 @@ use Prim.Native.Nat.{ℕ}
 use mathlib.Core.List.{List, _++_}
 use Rattle.svg_text.specs.Ascii.{ascii}
 
--- fills by kind: an address, a written byte, a byte to be read, a condition; bits that the log does not tell are hatched
+-- fills by kind: an address, a written byte, a byte to be read, a condition; bits that the words do not set are hatched
 unfoldable pub style-text : List ℕ
 style-text =
     ascii "<style>\n" ++ (
@@ -46,4 +46,4 @@ legend-text =
     ascii "<rect class=\"a\" x=\"290\" y=\"40\" width=\"14\" height=\"14\"/><text x=\"310\" y=\"52\">address</text>\n" ++ (
     ascii "<rect class=\"w\" x=\"400\" y=\"40\" width=\"14\" height=\"14\"/><text x=\"420\" y=\"52\">written</text>\n" ++ (
     ascii "<rect class=\"r\" x=\"510\" y=\"40\" width=\"14\" height=\"14\"/><text x=\"530\" y=\"52\">to be read</text>\n" ++ (
-    ascii "<rect class=\"h\" x=\"640\" y=\"40\" width=\"14\" height=\"14\"/><text x=\"660\" y=\"52\">bits not in the log</text></g>\n"))))))
+    ascii "<rect class=\"h\" x=\"640\" y=\"40\" width=\"14\" height=\"14\"/><text x=\"660\" y=\"52\">not set by the words</text></g>\n"))))))

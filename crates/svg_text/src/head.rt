@@ -83,8 +83,8 @@ fn push_bytes(out: &mut [u8], at: usize) -> usize
 }
 
 fn push_legend(out: &mut [u8], at: usize) -> usize
-    requires { ⌜ at + 608 ≤ length (now out) ⌝ }
-    ensures { λ r. ⌜ Appended (now (out .entry)) at legend-text 608 (now (out .exit)) r ⌝ }
+    requires { ⌜ at + 609 ≤ length (now out) ⌝ }
+    ensures { λ r. ⌜ Appended (now (out .entry)) at legend-text 609 (now (out .exit)) r ⌝ }
 {
     push_text(
         out,
@@ -95,7 +95,7 @@ fn push_legend(out: &mut [u8], at: usize) -> usize
           <rect class=\"a\" x=\"290\" y=\"40\" width=\"14\" height=\"14\"/><text x=\"310\" y=\"52\">address</text>\n\
           <rect class=\"w\" x=\"400\" y=\"40\" width=\"14\" height=\"14\"/><text x=\"420\" y=\"52\">written</text>\n\
           <rect class=\"r\" x=\"510\" y=\"40\" width=\"14\" height=\"14\"/><text x=\"530\" y=\"52\">to be read</text>\n\
-          <rect class=\"h\" x=\"640\" y=\"40\" width=\"14\" height=\"14\"/><text x=\"660\" y=\"52\">bits not in the log</text></g>\n",
+          <rect class=\"h\" x=\"640\" y=\"40\" width=\"14\" height=\"14\"/><text x=\"660\" y=\"52\">not set by the words</text></g>\n",
     )
 }
 
