@@ -3,11 +3,10 @@ use Prim.Native.Nat.{ℕ, _+_, _%_, _/_}
 use native.Mathlib.Omega.{arith}
 use mathlib.Core.Bool.{Bool, true, false}
 use mathlib.Core.List.{List, [], _∷_, _++_}
-use mathlib.Core.Path.{_≡_, refl, ap, _∙_}
+use mathlib.Core.Path.{_≡_, refl}
 use lib.Dec.{eqb}
 use lib.ListN.{length}
 use borrow.Author.Tests.{eqb-true, ne-eqb}
-use Rattle.regs.specs.declared.access.Entry.{Entry}
 use Rattle.regs.specs.declared.access.Entry.the-variants as entries
 use Rattle.regs.specs.Program.{if_then_else_}
 use Rattle.regs.specs.Registers.{TAR, DATA-CMD}
@@ -15,14 +14,11 @@ use Rattle.regs.specs.Fields.{address-field}
 use Rattle.regs.specs.Log.{entry, decode}
 use Rattle.bus.specs.declared.Bus.{Bus}
 use Rattle.bus.specs.declared.Bus.the-variants.{Idle}
-use Rattle.bus.specs.declared.Written.{Written}
 use Rattle.bus.specs.declared.Written.the-variants.{Nothing, Value}
-use Rattle.bus.specs.Bus.{signs-of, signs, written-to, bus-sequence}
+use Rattle.bus.specs.Bus.{signs, written-to, bus-sequence}
 use Rattle.bus.specs.Placed.{made, moved}
 use Rattle.explain_text.specs.declared.frame.Frame.{Frame}
 use Rattle.explain_text.specs.declared.frame.Frame.the-variants.{Read, Write, Pending, BlockReset, Buffer, Answer, Unknown}
-use Rattle.explain_bus.specs.Line.{kept-of}
-use Rattle.explain_word.specs.declared.transfer.Transfer.{Transfer}
 use Rattle.explain_word.specs.declared.transfer.Transfer.the-variants.{No, To}
 use Rattle.explain_word.specs.Piece.{opened, pieces, kept-from}
 

@@ -9,7 +9,7 @@ use Rattle.frames_text.specs.Text.{hex2}
 use Rattle.bus.specs.declared.Bus.{Bus}
 use Rattle.bus.specs.declared.Opening.{Opening}
 use Rattle.bus.specs.declared.Opening.the-variants.{None, Start, Restart}
-use Rattle.bus.specs.Bus.{Sign, STOP, address-byte, direction-bit, opening-of, opening, byte-sign, closing, signs-of}
+use Rattle.bus.specs.Bus.{Sign, direction-bit, opening-of, opening, byte-sign, closing, signs-of}
 use Rattle.explain_bus.specs.Line.{name-text, address-text, run-text, signs-text}
 use Rattle.explain_word.specs.Parts.{towards, direction-letter-of, addressed-text, opening-text, data-text, closing-text}
 

@@ -104,7 +104,11 @@ fn push_opening(out: &mut [u8], at: usize, height: u32) -> usize
     requires { ⌜ at + 200 ≤ length (now out) ⌝ }
     ensures { λ r. ⌜ Appended (now (out .entry)) at (opening-text height) 200 (now (out .exit)) r ⌝ }
 {
-    let a = push_text(out, at, b"<svg xmlns=\"http://www.w3.org/2000/svg\" width=\"840\" height=\"");
+    let a = push_text(
+        out,
+        at,
+        b"<svg xmlns=\"http://www.w3.org/2000/svg\" width=\"840\" height=\"",
+    );
     let b = push_number(out, a, height);
     let c = push_text(out, b, b"\" viewBox=\"0 0 840 ");
     let d = push_number(out, c, height);

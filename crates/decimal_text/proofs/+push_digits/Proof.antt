@@ -1,5 +1,4 @@
 -- `decimal_text::push_digits` meets its contract. It ends, since k falls.
-use mathlib.Core.Path.{sym}
 use native.Mathlib.Omega.{arith}
 use borrow.Author.Needs.{needs}
 use Rattle.frames_text.proofs.Appends.{nothing, then, within}

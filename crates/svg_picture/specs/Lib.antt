@@ -1,1 +1,0 @@
--- The picture is defined in svg_text's `Picture`.
