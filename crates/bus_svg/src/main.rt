@@ -197,7 +197,7 @@ fn main() {
     let mut line = [0u8; 8195];
     let mut log = [0u32; 16384];
     let mut places = [0u32; 32768];
-    let mut out = [0u8; 230000];
+    let mut out = [0u8; 53000];
     let last = read_all(&mut chunk, &mut line, &mut log, &mut places, &mut out);
     if !close(last, &line, &mut log, &mut places, &mut out) {
         warn(b"no whole call put anything on the bus\n");

@@ -62,14 +62,14 @@ words-taken zero ss = refl
 words-taken (suc k) [] = refl
 words-taken (suc k) (s ∷ ss) = ap (λ (l : List ℕ). sign-word s ∷ l) (words-taken k ss)
 
--- the first 1,024 places, or all that there are
-first-held : (ss : List Sign) (after : List ℕ) (n : ℕ) → n ≡ length ss → take n after ≡ sign-words ss → (q : Bool) → ltb n 1024 ≡ q → take (if q then n else 1024) after ≡ take 1024 (sign-words ss)
-first-held ss after n e h true t = h ∙ sym (take-all 1024 (sign-words ss) (omega (arith, e, length-map ss sign-word, ltb-true n 1024 t)))
-first-held ss after n e h false t = sym (take-take 1024 n after (ltb-false n 1024 t)) ∙ ap (λ (l : List ℕ). take 1024 l) h
+-- the first 256 places, or all that there are
+first-held : (ss : List Sign) (after : List ℕ) (n : ℕ) → n ≡ length ss → take n after ≡ sign-words ss → (q : Bool) → ltb n 256 ≡ q → take (if q then n else 256) after ≡ take 256 (sign-words ss)
+first-held ss after n e h true t = h ∙ sym (take-all 256 (sign-words ss) (omega (arith, e, length-map ss sign-word, ltb-true n 256 t)))
+first-held ss after n e h false t = sym (take-take 256 n after (ltb-false n 256 t)) ∙ ap (λ (l : List ℕ). take 256 l) h
 
 pub drawn-is : (l : List ℕ) (log : List Entry) {after : List ℕ} {n m : ℕ} → (n ≡ length (bus-sequence log)) × (after ≡ sets l 0 (sign-words (bus-sequence log))) → n ≤ length after → length after ≡ length l
-    → m ≡ (if ltb n 1024 then n else 1024) → words-svg (take m after) n ≡ svg-text (take 1024 (bus-sequence log)) n
+    → m ≡ (if ltb n 256 then n else 256) → words-svg (take m after) n ≡ svg-text (take 256 (bus-sequence log)) n
 drawn-is l log {after} {n} s h k e =
     let ss = bus-sequence log in
-    let f : take (if ltb n 1024 then n else 1024) after ≡ sign-words (take 1024 ss) = first-held ss after n (s .0) (sequence-held l ss s h k) (ltb n 1024) refl ∙ words-taken 1024 ss in
-    rw (e, f) (svg-is n (fit-take 1024 (fit-sequence log)))
+    let f : take (if ltb n 256 then n else 256) after ≡ sign-words (take 256 ss) = first-held ss after n (s .0) (sequence-held l ss s h k) (ltb n 256) refl ∙ words-taken 256 ss in
+    rw (e, f) (svg-is n (fit-take 256 (fit-sequence log)))

@@ -13,11 +13,11 @@ ghost use Rattle.svg_text.specs.Picture.{column, row, note-text, picture};
 ghost use Rattle.svg_text.specs.Drawn.{kind-width, words-text, words-last, words-svg};
 
 // How many signs are drawn, how many entries a sequence may have, and the room for its text.
-pub const DRAWN: usize = 1024;
+pub const DRAWN: usize = 256;
 
 pub const MOST: usize = 32768;
 
-pub const ROOM: usize = 230000;
+pub const ROOM: usize = 53000;
 
 fn width_of(kind: u32) -> u32
     ensures { λ r. ⌜ (r ≡ kind-width kind) × (r ≤ 108) ⌝ }
@@ -50,7 +50,7 @@ fn row_of(x: u32, y: u32, w: u32) -> u32
 }
 
 fn last_row(places: &[u32], n: usize) -> u32
-    requires { ⌜ (n ≤ length (now places)) × (n ≤ 1024) ⌝ }
+    requires { ⌜ (n ≤ length (now places)) × (n ≤ 256) ⌝ }
     ensures { λ r. ⌜ (r ≡ words-last 60 70 (take n (now (places .entry)))) × (r ≤ 70 + 120 * n) ⌝ }
 {
     let mut x: u32 = 60;
@@ -67,7 +67,7 @@ fn last_row(places: &[u32], n: usize) -> u32
 }
 
 fn push_signs(out: &mut [u8], at: usize, places: &[u32], n: usize) -> usize
-    requires { ⌜ (at + 196 * n ≤ length (now out)) × (n ≤ length (now places)) × (n ≤ 1024) ⌝ }
+    requires { ⌜ (at + 196 * n ≤ length (now out)) × (n ≤ length (now places)) × (n ≤ 256) ⌝ }
     ensures { λ r. ⌜ Appended (now (out .entry)) at (words-text 60 70 (take n (now (places .entry)))) (196 * n) (now (out .exit)) r ⌝ }
 {
     let mut end = at;
@@ -88,13 +88,13 @@ fn push_signs(out: &mut [u8], at: usize, places: &[u32], n: usize) -> usize
 
 // That only the first signs are drawn.
 fn push_note(out: &mut [u8], at: usize, y: u32, n: u32) -> usize
-    requires { ⌜ at + 74 ≤ length (now out) ⌝ }
-    ensures { λ r. ⌜ Appended (now (out .entry)) at (note-text y n) 74 (now (out .exit)) r ⌝ }
+    requires { ⌜ at + 73 ≤ length (now out) ⌝ }
+    ensures { λ r. ⌜ Appended (now (out .entry)) at (note-text y n) 73 (now (out .exit)) r ⌝ }
 {
-    if n > 1024 {
+    if n > 256 {
         let a = push_text(out, at, b"<text class=\"n\" x=\"16\" y=\"");
         let b = push_number(out, a, y);
-        let c = push_text(out, b, b"\">the first 1024 of ");
+        let c = push_text(out, b, b"\">the first 256 of ");
         let d = push_number(out, c, n);
         return push_text(out, d, b" entries</text>\n");
     }
@@ -102,8 +102,8 @@ fn push_note(out: &mut [u8], at: usize, y: u32, n: u32) -> usize
 }
 
 fn push_svg(out: &mut [u8], places: &[u32], n: usize, entries: u32) -> usize
-    requires { ⌜ (230000 ≤ length (now out)) × (n ≤ length (now places)) × (n ≤ 1024) ⌝ }
-    ensures { λ r. ⌜ Appended (now (out .entry)) 0 (words-svg (take n (now (places .entry))) entries) 230000 (now (out .exit)) r ⌝ }
+    requires { ⌜ (53000 ≤ length (now out)) × (n ≤ length (now places)) × (n ≤ 256) ⌝ }
+    ensures { λ r. ⌜ Appended (now (out .entry)) 0 (words-svg (take n (now (places .entry))) entries) 53000 (now (out .exit)) r ⌝ }
 {
     let y = last_row(places, n);
     let a = push_head(out, 0, y + 130);
@@ -113,7 +113,7 @@ fn push_svg(out: &mut [u8], places: &[u32], n: usize, entries: u32) -> usize
 }
 
 fn drawn(n: usize) -> usize
-    ensures { λ r. ⌜ (r ≡ (if ltb n 1024 then n else 1024)) × (r ≤ 1024) ⌝ }
+    ensures { λ r. ⌜ (r ≡ (if ltb n 256 then n else 256)) × (r ≤ 256) ⌝ }
 {
     if n < DRAWN { n } else { DRAWN }
 }

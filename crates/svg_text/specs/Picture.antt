@@ -91,9 +91,9 @@ opening-text height = ascii "<svg xmlns=\"http://www.w3.org/2000/svg\" width=\"8
 unfoldable pub head-text : ℕ → List ℕ
 head-text height = opening-text height ++ (style-text ++ (conditions-text ++ (bytes-text ++ legend-text)))
 
--- of a sequence of more than 1,024 signs the first are drawn, and the picture says so
+-- of a sequence of more than 256 signs the first are drawn, and the picture says so
 unfoldable pub note-text : ℕ → ℕ → List ℕ
-note-text y n = if ltb 1024 n then ascii "<text class=\"n\" x=\"16\" y=\"" ++ (number-text y ++ (ascii "\">the first 1024 of " ++ (number-text n ++ ascii " entries</text>\n"))) else []
+note-text y n = if ltb 256 n then ascii "<text class=\"n\" x=\"16\" y=\"" ++ (number-text y ++ (ascii "\">the first 256 of " ++ (number-text n ++ ascii " entries</text>\n"))) else []
 
 unfoldable pub svg-text : List Sign → ℕ → List ℕ
 svg-text ss n = head-text (last-row 60 70 ss + 130) ++ (signs-text 60 70 ss ++ (note-text (last-row 60 70 ss + 124) n ++ ascii "</svg>\n"))
@@ -103,6 +103,6 @@ unfoldable pub picture : List ℕ → ℕ → ℕ → List ℕ
 picture log places room =
     if ltb 32768 (length (bus-sequence (decode log))) then [] else
     (if ltb places 32768 then [] else
-    (if ltb room 230000 then [] else
+    (if ltb room 53000 then [] else
     (if eqb (length (bus-sequence (decode log))) 0 then [] else
-    svg-text (take 1024 (bus-sequence (decode log))) (length (bus-sequence (decode log))))))
+    svg-text (take 256 (bus-sequence (decode log))) (length (bus-sequence (decode log))))))

@@ -35,7 +35,7 @@ same-length c = search needs
 
 returns : tie.Need-returns
 unfolding words-svg
-returns c = rw (← c .before .before .before .before .before .before .before .before .before .before .before .before .before .before .before .before .before .last-row .ensures .0) (within 230000 (omega (arith, c .before .before .before .before .before .before .before .before .before .before .before .before .before .before .before .before .before .before .before .before .pre .2)) (then (c .before .before .before .before .before .before .before .before .before .before .before .before .before .before .before .push-head .ensures) (then (c .before .before .before .before .before .before .before .before .before .before .before .push-signs .ensures) (then (c .before .before .before .before .before .before .before .push-note .ensures) (c .before .before .push-text .ensures)))))
+returns c = rw (← c .before .before .before .before .before .before .before .before .before .before .before .before .before .before .before .before .before .last-row .ensures .0) (within 53000 (omega (arith, c .before .before .before .before .before .before .before .before .before .before .before .before .before .before .before .before .before .before .before .before .pre .2)) (then (c .before .before .before .before .before .before .before .before .before .before .before .before .before .before .before .push-head .ensures) (then (c .before .before .before .before .before .before .before .before .before .before .before .push-signs .ensures) (then (c .before .before .before .before .before .before .before .push-note .ensures) (c .before .before .push-text .ensures)))))
 
 pub push-svg-spec : {M : Type 1} → statement M
 push-svg-spec =
