@@ -1,17 +1,25 @@
 // Explains the replay's answers: answer frames on standard input, a line of text for each on standard output, and a transfer's bus line before its answer. A line's text
-// is what explain_text's Texts says of it, by the contract of `explain_text::text::explain`, and the bus line what explain_bus's Line says of the transfer's writes, by
-// those of `explain_bus::kept::keep` and `explain_bus::line::bus_line`; here bytes are only moved and lines counted.
+// is what explain_word's Piece says of it, by the contracts of `explain_word::beside::tell` and `explain_word::transfer::after`, and the bus line what explain_bus's Line
+// says of the transfer's writes, by those of `explain_bus::kept::keep` and `explain_bus::line::bus_line`; here bytes are only moved and lines counted.
 use explain_text::frame::Frame;
+use explain_word::transfer::Transfer;
 use libc::STDIN_FILENO;
 use libc::STDOUT_FILENO;
 ghost use Prim.Native.Nat.{_≤_};
 ghost use lib.ListN.{length};
 
-// How much of a line has come, how many lines were before it, and how much of the log is used.
+// What is kept of the open call: how much of the log is used, and what stands before the next line.
+struct Call {
+    used: usize,
+    transfer: Transfer,
+}
+
+// How much of a line has come, how many lines were before it, and what is kept of the open call.
 struct Place {
     held: usize,
     lines: u64,
     used: usize,
+    transfer: Transfer,
 }
 
 fn next(n: u64) -> u64 {
@@ -29,8 +37,8 @@ fn say(text: &[u8]) {
 }
 
 // The text of a line, or that it is none.
-fn say_line(line: &[u8], number: u64, out: &mut [u8]) {
-    let made = explain_text::text::explain(line, out);
+fn say_line(line: &[u8], number: u64, before: Transfer, out: &mut [u8]) {
+    let made = explain_word::beside::tell(before, line, out);
     if made == 0 {
         say(b"line ");
         io::print_decimal(STDOUT_FILENO, number);
@@ -54,22 +62,29 @@ fn is_answer(f: Frame) -> bool {
     }
 }
 
-// A whole line: before an answer its transfer's bus line, and the log starts again. Says how much of the log is used then.
+// A whole line: before an answer its transfer's bus line, and with it the call ends. Says what is kept then.
 fn end_line(
     line: &[u8],
     number: u64,
     used: usize,
+    before: Transfer,
     log: &mut [u32],
     places: &mut [u32],
     out: &mut [u8],
-) -> usize {
+) -> Call {
     if is_answer(explain_text::frame::frame_in(line)) {
         say_bus(log, used, places, out);
-        say_line(line, number, out);
-        return 0;
+        say_line(line, number, before, out);
+        return Call {
+            used: 0,
+            transfer: Transfer::No,
+        };
     }
-    say_line(line, number, out);
-    explain_bus::kept::keep(line, log, used)
+    say_line(line, number, before, out);
+    Call {
+        used: explain_bus::kept::keep(line, log, used),
+        transfer: explain_word::transfer::after(before, line),
+    }
 }
 
 // One byte more. What comes past the buffer's end is dropped: such a line is too long for a frame.
@@ -87,19 +102,24 @@ fn take(
     let held = p.held;
     if c == b'\n' {
         let lines = next(p.lines);
-        let used = end_line(&line[..held], lines, p.used, log, places, out);
+        let before = p.transfer;
+        let call = end_line(&line[..held], lines, p.used, before, log, places, out);
+        let transfer = call.transfer;
         return Place {
             held: 0,
             lines: lines,
-            used: used,
+            used: call.used,
+            transfer: transfer,
         };
     }
     if held < line.len() {
         line[held] = c;
+        let transfer = p.transfer;
         return Place {
             held: held + 1,
             lines: p.lines,
             used: p.used,
+            transfer: transfer,
         };
     }
     p
@@ -139,6 +159,7 @@ fn read_all(
         held: 0,
         lines: 0,
         used: 0,
+        transfer: Transfer::No,
     };
     let mut turns = u64::MAX;
     while turns > 0 {
@@ -160,7 +181,16 @@ fn close(p: Place, line: &[u8], log: &mut [u32], places: &mut [u32], out: &mut [
 {
     let held = p.held;
     if held > 0 {
-        end_line(&line[..held], next(p.lines), p.used, log, places, out);
+        let before = p.transfer;
+        end_line(
+            &line[..held],
+            next(p.lines),
+            p.used,
+            before,
+            log,
+            places,
+            out,
+        );
     }
 }
 

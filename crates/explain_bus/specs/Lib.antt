@@ -1,2 +1,3 @@
 -- The bus line of a transfer.
 pub mod Line
+pub mod Words

@@ -28,7 +28,7 @@ fn put_write(log: &mut [u32], used: usize, offset: u32, w: u32) -> usize
     ensures { λ r. ⌜ Appended (now (log .entry)) used (kept-of used (Frame.Write offset w)) 2 (now (log .exit)) r ⌝ }
 {
     if used == 0 {
-        if offset == regs::TAR as u32 {
+        if offset % 256 == regs::TAR as u32 {
             return put_entry(log, used, offset, w);
         }
         return used;

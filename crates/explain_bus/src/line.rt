@@ -1,4 +1,5 @@
 // The bus sequence of a transfer as text. Each function puts its text at `at` of a lent buffer and returns where the text ends.
+use decimal_text::push_digits;
 use explain_text::rows::push_cell;
 use frames_text::print::push;
 use frames_text::print::push2;
@@ -6,15 +7,15 @@ ghost use mathlib.Core.Path.{_≡_};
 ghost use Prim.Native.Nat.{_+_, _*_, _<_, _≤_};
 ghost use lib.ListN.{length, take};
 ghost use Rattle.frames_text.specs.Appended.{Appended};
-ghost use Rattle.explain_text.specs.Texts.{cell};
-ghost use Rattle.explain_bus.specs.Line.{signs-table, direction-letter, kind-text, sign-text, signs-text, sequence-text, bus-line};
+ghost use Rattle.explain_bus.specs.Line.{name-text, direction-letter, run-text, bus-line};
+ghost use Rattle.explain_bus.specs.Words.{kind-text, word-text, words-text, words-line};
 
-// START, RESTART, STOP or a read slot.
-fn push_name(out: &mut [u8], at: usize, row: usize) -> usize
-    requires { ⌜ (at + 9 ≤ length (now out)) × (row < 4) ⌝ }
-    ensures { λ r. ⌜ Appended (now (out .entry)) at (cell signs-table 9 row) 9 (now (out .exit)) r ⌝ }
+// START, RESTART or STOP.
+pub fn push_name(out: &mut [u8], at: usize, row: usize) -> usize
+    requires { ⌜ (at + 9 ≤ length (now out)) × (row < 3) ⌝ }
+    ensures { λ r. ⌜ Appended (now (out .entry)) at (name-text row) 9 (now (out .exit)) r ⌝ }
 {
-    push_cell(out, at, b" START... RESTART. STOP.... --......", 9, row)
+    push_cell(out, at, b" START... RESTART. STOP....", 9, row)
 }
 
 fn letter(b: u32) -> u8
@@ -23,7 +24,7 @@ fn letter(b: u32) -> u8
     if b % 2 == 0 { b'w' } else { b'r' }
 }
 
-fn push_kind(out: &mut [u8], at: usize, kind: u32, value: u32) -> usize
+pub fn push_kind(out: &mut [u8], at: usize, kind: u32, value: u32) -> usize
     requires { ⌜ at + 9 ≤ length (now out) ⌝ }
     ensures { λ r. ⌜ Appended (now (out .entry)) at (kind-text kind value) 9 (now (out .exit)) r ⌝ }
 {
@@ -42,36 +43,55 @@ fn push_kind(out: &mut [u8], at: usize, kind: u32, value: u32) -> usize
     if kind == 2 {
         return push_name(out, at, 1);
     }
-    if kind == 3 {
-        return push_name(out, at, 2);
-    }
-    push_name(out, at, 3)
+    push_name(out, at, 2)
 }
 
-// An entry of the sequence.
-fn push_sign(out: &mut [u8], at: usize, word: u32) -> usize
-    requires { ⌜ at + 9 ≤ length (now out) ⌝ }
-    ensures { λ r. ⌜ Appended (now (out .entry)) at (sign-text word) 9 (now (out .exit)) r ⌝ }
+// The count of a run of read slots.
+pub fn push_run(out: &mut [u8], at: usize, run: u32) -> usize
+    requires { ⌜ at + 8 * run ≤ length (now out) ⌝ }
+    ensures { λ r. ⌜ Appended (now (out .entry)) at (run-text run) (8 * run) (now (out .exit)) r ⌝ }
 {
-    push_kind(out, at, word / 65536, word % 65536)
+    if run == 0 {
+        return at;
+    }
+    let a = push(out, at, b' ');
+    let b = push(out, a, b'[');
+    let c = push_digits(out, b, 5, run);
+    push(out, c, b']')
+}
+
+// A sign that is no read slot, behind a run of read slots.
+fn push_sign(out: &mut [u8], at: usize, run: u32, word: u32) -> usize
+    requires { ⌜ at + (8 * run + 9) ≤ length (now out) ⌝ }
+    ensures { λ r. ⌜ Appended (now (out .entry)) at (word-text run word) (8 * run + 9) (now (out .exit)) r ⌝ }
+{
+    let end = push_run(out, at, run);
+    push_kind(out, end, word / 65536, word % 65536)
 }
 
 fn push_signs(out: &mut [u8], at: usize, places: &[u32], n: usize) -> usize
-    requires { ⌜ (at + 9 * n ≤ length (now out)) × (n ≤ length (now places)) ⌝ }
-    ensures { λ r. ⌜ Appended (now (out .entry)) at (signs-text (take n (now (places .entry)))) (9 * n) (now (out .exit)) r ⌝ }
+    requires { ⌜ (at + 9 * n ≤ length (now out)) × (n ≤ length (now places)) × (n ≤ 32768) ⌝ }
+    ensures { λ r. ⌜ Appended (now (out .entry)) at (words-text 0 (take n (now (places .entry)))) (9 * n) (now (out .exit)) r ⌝ }
 {
     let mut end = at;
+    let mut run: u32 = 0;
     let mut i: usize = 0;
     while i < n {
-        end = push_sign(out, end, places[i]);
+        let word = places[i];
         i += 1;
+        if word / 65536 == 6 {
+            run += 1;
+        } else {
+            end = push_sign(out, end, run, word);
+            run = 0;
+        }
     }
-    end
+    push_run(out, end, run)
 }
 
 fn push_sequence(out: &mut [u8], places: &[u32], n: usize) -> usize
     requires { ⌜ (n ≤ 32768) × (294921 ≤ length (now out)) × (n ≤ length (now places)) ⌝ }
-    ensures { λ r. ⌜ Appended (now (out .entry)) 0 (sequence-text (take n (now (places .entry)))) 294921 (now (out .exit)) r ⌝ }
+    ensures { λ r. ⌜ Appended (now (out .entry)) 0 (words-line (take n (now (places .entry)))) 294921 (now (out .exit)) r ⌝ }
 {
     if n == 0 {
         return 0;

@@ -45,9 +45,11 @@ abbrev pub name-row : ℕ → ℕ
 name-row offset = if eqb (offset % 4) 0 then (if ltb offset 172 then offset / 4 else 3) else 3
 
 -- an access: which, the register's name and offset, the value and its fields
+unfoldable pub access-words : ℕ → ℕ → ℕ → List ℕ
+access-words word offset w = cell words 12 word ++ (cell names 17 (name-row offset) ++ (hex2 offset ++ ((32 ∷ []) ++ (hex8 w ++ fields offset w))))
+
 unfoldable pub access-text : ℕ → ℕ → ℕ → List ℕ
-access-text word offset w =
-    cell words 12 word ++ (cell names 17 (name-row offset) ++ (hex2 offset ++ ((32 ∷ []) ++ (hex8 w ++ (fields offset w ++ (LF ∷ []))))))
+access-text word offset w = access-words word offset w ++ (LF ∷ [])
 
 unfoldable pub mark-text : ℕ → List ℕ
 mark-text word = cell words 12 word ++ (LF ∷ [])

@@ -12,7 +12,7 @@ ghost use Prim.Native.Nat.{_+_, _*_, _<_, _≤_};
 ghost use lib.ListN.{length};
 ghost use Rattle.frames_text.specs.Appended.{Appended};
 ghost use Rattle.explain_text.specs.Tables.{names, interrupts-flags, words, answers};
-ghost use Rattle.explain_text.specs.Texts.{cell, flags, state-fields, fields, name-row, access-text, mark-text, buffer-text, detail-text, answer-text, frame-text, explained};
+ghost use Rattle.explain_text.specs.Texts.{cell, flags, state-fields, fields, name-row, access-words, access-text, mark-text, buffer-text, detail-text, answer-text, frame-text, explained};
 
 // The longest line, a buffer of 4,096 bytes, and the room that the text of every line has in.
 pub const LONGEST: usize = 8194;
@@ -147,17 +147,25 @@ fn push_fields(out: &mut [u8], at: usize, offset: u32, w: u32) -> usize
     push_states(out, at, offset, w)
 }
 
-fn push_access(out: &mut [u8], begin: usize, offset: u32, w: u32) -> usize
+// An access without the end of its line.
+pub fn push_words(out: &mut [u8], begin: usize, offset: u32, w: u32) -> usize
     requires { ⌜ (512 ≤ length (now out)) × (begin < 6) ⌝ }
-    ensures { λ r. ⌜ Appended (now (out .entry)) 0 (access-text begin offset w) 512 (now (out .exit)) r ⌝ }
+    ensures { λ r. ⌜ Appended (now (out .entry)) 0 (access-words begin offset w) 500 (now (out .exit)) r ⌝ }
 {
     let a = push_begin(out, 0, begin);
     let b = push_name(out, a, offset);
     let c = push2(out, b, offset);
     let d = push(out, c, b' ');
     let e = push8(out, d, w);
-    let f = push_fields(out, e, offset, w);
-    push(out, f, b'\n')
+    push_fields(out, e, offset, w)
+}
+
+fn push_access(out: &mut [u8], begin: usize, offset: u32, w: u32) -> usize
+    requires { ⌜ (512 ≤ length (now out)) × (begin < 6) ⌝ }
+    ensures { λ r. ⌜ Appended (now (out .entry)) 0 (access-text begin offset w) 512 (now (out .exit)) r ⌝ }
+{
+    let a = push_words(out, begin, offset, w);
+    push(out, a, b'\n')
 }
 
 fn push_mark(out: &mut [u8], begin: usize) -> usize

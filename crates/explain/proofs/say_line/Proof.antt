@@ -6,8 +6,8 @@ use borrow.Author.Needs.{needs}
 use Rattle.explain.proofs.say_line.Statement.{statement}
 use Rattle.explain.proofs.say_line.Tie as tie
 
-explain-requires : tie.Need-explain-requires
-explain-requires c κs = search needs
+tell-requires : tie.Need-tell-requires
+tell-requires c κs = search needs
 
 slice-aggregate-say : tie.Need-slice-aggregate-say
 slice-aggregate-say c = search needs
@@ -28,7 +28,7 @@ slice-reshare-prefix-say : tie.Need-slice-reshare-prefix-say
 slice-reshare-prefix-say c = search needs
 
 slice-aggregate-say-3 : tie.Need-slice-aggregate-say-3
-slice-aggregate-say-3 c = sym (length-take-le _ _ (omega (arith, c .before .before .before .before .explain .ensures .room, c .before .before .before .before .explain .kept .1 .0)))
+slice-aggregate-say-3 c = sym (length-take-le _ _ (omega (arith, c .before .before .before .before .tell .ensures .room, c .before .before .before .before .tell .kept .1 .1 .0)))
 
 say-requires-3 : tie.Need-say-requires-3
 say-requires-3 c κs = search needs
@@ -49,7 +49,7 @@ pub say-line-spec : {M : Type 1} → statement M
 say-line-spec =
     tie.close
     (tie.spec
-    explain-requires
+    tell-requires
     slice-aggregate-say
     say-requires
     print-decimal-requires

@@ -37,8 +37,8 @@ returns c = search needs
 slice-write-line : tie.Need-slice-write-line
 slice-write-line c = search needs
 
-add-t21 : tie.Need-add-t21
-add-t21 c = search needs
+add-t24 : tie.Need-add-t24
+add-t24 c = search needs
 
 same-length-5 : tie.Need-same-length-5
 same-length-5 c = search needs
@@ -63,7 +63,7 @@ take-spec =
     same-length-4
     returns
     slice-write-line
-    add-t21
+    add-t24
     same-length-5
     returns-2
     returns-3)

@@ -4,6 +4,7 @@ use borrow.Author.Tests.{lt-ltb, le-ltb}
 use Rattle.frames_text.proofs.Appends.{nothing, within}
 use Rattle.explain_bus.specs.Line.{bus-line}
 use Rattle.explain_bus.proofs.Signs.{sequence-held}
+use Rattle.explain_bus.proofs.Fits.{line-is}
 use borrow.Author.Needs.{needs}
 use Rattle.explain_bus.proofs.line.bus_line.Statement.{statement}
 use Rattle.explain_bus.proofs.line.bus_line.Tie as tie
@@ -43,7 +44,7 @@ same-length-5 c = search needs
 
 returns-4 : tie.Need-returns-4
 unfolding bus-line
-returns-4 c = rw (← c .before .before .before .before .before .before .before .before .before .before .bus-sequence .ensures .0, le-ltb _ _ (c .before .before .before .before .before .before .before .if1 .left), ← c .before .before .before .before .before .before .before .before .before .before .bus-sequence .kept .1 .0, le-ltb _ _ (c .before .before .before .before .before .before .if2 .left), le-ltb _ _ (c .before .before .before .before .before .if3 .left), ← sequence-held _ _ (c .before .before .before .before .before .before .before .before .before .before .bus-sequence .ensures) (omega (arith, c .before .before .before .before .before .before .before .if1 .left, c .before .before .before .before .before .before .if2 .left)) (c .before .before .before .before .before .before .before .before .before .before .bus-sequence .kept .1 .0)) (within _ (omega (arith, c .before .before .before .before .before .if3 .left)) (c .before .before .push-sequence .ensures))
+returns-4 c = rw (← c .before .before .before .before .before .before .before .before .before .before .bus-sequence .ensures .0, le-ltb _ _ (c .before .before .before .before .before .before .before .if1 .left), ← c .before .before .before .before .before .before .before .before .before .before .bus-sequence .kept .1 .0, le-ltb _ _ (c .before .before .before .before .before .before .if2 .left), le-ltb _ _ (c .before .before .before .before .before .if3 .left), ← line-is, ← sequence-held _ _ (c .before .before .before .before .before .before .before .before .before .before .bus-sequence .ensures) (omega (arith, c .before .before .before .before .before .before .before .if1 .left, c .before .before .before .before .before .before .if2 .left)) (c .before .before .before .before .before .before .before .before .before .before .bus-sequence .kept .1 .0)) (within _ (omega (arith, c .before .before .before .before .before .if3 .left)) (c .before .before .push-sequence .ensures))
 
 pub bus-line-spec : {M : Type 1} → statement M
 bus-line-spec =

@@ -61,16 +61,7 @@ same-length-5 : tie.Need-same-length-5
 same-length-5 c = search needs
 
 returns-5 : tie.Need-returns-5
-returns-5 c = rw (ne-eqb _ _ (c .before .before .before .before .before .before .before .before .if1 .left), ne-eqb _ _ (c .before .before .before .before .before .before .before .if2 .left), ne-eqb _ _ (c .before .before .before .before .before .before .if3 .left), ne-eqb _ _ (c .before .before .before .before .before .if4 .left), eq-eqb _ _ (c .before .before .before .before .if5 .taken)) (c .before .before .push-name3 .ensures)
-
-push-name-requires-4 : tie.Need-push-name-requires-4
-push-name-requires-4 c κs = search needs
-
-same-length-6 : tie.Need-same-length-6
-same-length-6 c = search needs
-
-returns-6 : tie.Need-returns-6
-returns-6 c = rw (ne-eqb _ _ (c .before .before .before .before .before .before .before .before .if1 .left), ne-eqb _ _ (c .before .before .before .before .before .before .before .if2 .left), ne-eqb _ _ (c .before .before .before .before .before .before .if3 .left), ne-eqb _ _ (c .before .before .before .before .before .if4 .left), ne-eqb _ _ (c .before .before .before .before .if5 .left)) (c .before .before .push-name4 .ensures)
+returns-5 c = rw (ne-eqb _ _ (c .before .before .before .before .before .before .before .if1 .left), ne-eqb _ _ (c .before .before .before .before .before .before .if2 .left), ne-eqb _ _ (c .before .before .before .before .before .if3 .left), ne-eqb _ _ (c .before .before .before .before .if4 .left)) (c .before .before .push-name3 .ensures)
 
 pub push-kind-spec : {M : Type 1} → statement M
 push-kind-spec =
@@ -94,7 +85,4 @@ push-kind-spec =
     returns-4
     push-name-requires-3
     same-length-5
-    returns-5
-    push-name-requires-4
-    same-length-6
-    returns-6)
+    returns-5)

@@ -3,13 +3,13 @@ use native.Mathlib.Omega.{arith}
 use borrow.Author.Tests.{eq-eqb, ne-eqb}
 use lib.Seq.{length-take-le}
 use Rattle.frames_text.proofs.Appends.{nothing, then, within}
-use Rattle.explain_bus.specs.Line.{sequence-text}
+use Rattle.explain_bus.specs.Words.{words-line}
 use borrow.Author.Needs.{needs}
 use Rattle.explain_bus.proofs.line.push_sequence.Statement.{statement}
 use Rattle.explain_bus.proofs.line.push_sequence.Tie as tie
 
 returns : tie.Need-returns
-unfolding sequence-text
+unfolding words-line
 returns c = rw (length-take-le _ _ (c .before .before .before .pre .2), eq-eqb _ _ (c .if1 .taken)) (nothing _ _ _)
 
 push-requires : tie.Need-push-requires
@@ -31,7 +31,7 @@ same-length : tie.Need-same-length
 same-length c = search needs
 
 returns-2 : tie.Need-returns-2
-unfolding sequence-text
+unfolding words-line
 returns-2 c = rw (length-take-le _ _ (c .before .before .before .before .before .before .before .before .before .before .before .before .before .before .before .before .before .before .before .before .before .before .before .pre .2), ne-eqb _ _ (c .before .before .before .before .before .before .before .before .before .before .before .before .before .before .before .before .before .before .before .before .if1 .left)) (within 294921 (omega (arith, c .before .before .before .before .before .before .before .before .before .before .before .before .before .before .before .before .before .before .before .before .before .before .before .pre .0)) (then (c .before .before .before .before .before .before .before .before .before .before .before .before .before .before .before .before .before .before .push .ensures) (then (c .before .before .before .before .before .before .before .before .before .before .before .before .before .before .push2 .ensures) (then (c .before .before .before .before .before .before .before .before .before .before .push3 .ensures) (then (c .before .before .before .before .before .before .push-signs .ensures) (c .before .before .push4 .ensures))))))
 
 pub push-sequence-spec : {M : Type 1} → statement M

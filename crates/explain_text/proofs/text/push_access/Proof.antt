@@ -6,44 +6,18 @@ use borrow.Author.Needs.{needs}
 use Rattle.explain_text.proofs.text.push_access.Statement.{statement}
 use Rattle.explain_text.proofs.text.push_access.Tie as tie
 
-push-begin-requires : tie.Need-push-begin-requires
-push-begin-requires c κs = search needs
-
-push-name-requires : tie.Need-push-name-requires
-push-name-requires c κs = search needs
-
-push2-requires : tie.Need-push2-requires
-push2-requires c κs = search needs
+push-words-requires : tie.Need-push-words-requires
+push-words-requires c κs = search needs
 
 push-requires : tie.Need-push-requires
 push-requires c κs = search needs
-
-push8-requires : tie.Need-push8-requires
-push8-requires c κs = search needs
-
-push-fields-requires : tie.Need-push-fields-requires
-push-fields-requires c κs = search needs
-
-push-requires-2 : tie.Need-push-requires-2
-push-requires-2 c κs = search needs
 
 same-length : tie.Need-same-length
 same-length c = search needs
 
 returns : tie.Need-returns
 unfolding access-text
-returns c = within 512 (omega arith) (then (c .before .before .before .before .before .before .before .before .before .before .before .before .before .before .before .before .before .before .before .before .before .before .before .before .before .before .push-begin .ensures) (then (c .before .before .before .before .before .before .before .before .before .before .before .before .before .before .before .before .before .before .before .before .before .before .push-name .ensures) (then (c .before .before .before .before .before .before .before .before .before .before .before .before .before .before .before .before .before .before .push2 .ensures) (then (c .before .before .before .before .before .before .before .before .before .before .before .before .before .before .push .ensures) (then (c .before .before .before .before .before .before .before .before .before .before .push8 .ensures) (then (c .before .before .before .before .before .before .push-fields .ensures) (c .before .before .push3 .ensures)))))))
+returns c = within 512 (omega arith) (then (c .before .before .before .before .before .before .push-words .ensures) (c .before .before .push .ensures))
 
 pub push-access-spec : {M : Type 1} → statement M
-push-access-spec =
-    tie.close
-    (tie.spec
-    push-begin-requires
-    push-name-requires
-    push2-requires
-    push-requires
-    push8-requires
-    push-fields-requires
-    push-requires-2
-    same-length
-    returns)
+push-access-spec = tie.close (tie.spec push-words-requires push-requires same-length returns)

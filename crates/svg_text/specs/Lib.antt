@@ -1,0 +1,5 @@
+-- A bus sequence as a picture.
+pub mod Ascii
+pub mod Texts
+pub mod Picture
+pub mod Drawn
