@@ -9,9 +9,10 @@ use lib.Dec.{ltb}
 use lib.ListN.{length, take, drop, getD, length-append, length-drop, take-append-drop}
 use lib.Seq.{take-suc, getD-drop, drop-drop, length-take-le}
 use borrow.Author.Tests.{lt-ltb, ltb-true, ne-eqb}
+use Rattle.regs.proofs.Tests.{both-of}
 use Rattle.frames_text.specs.Text.{lines-after, digit-of}
 use Rattle.frames_text.specs.Pairs.{all-digits}
-use Rattle.frames_text.proofs.Pairs.{both-of, digits-joined, lf-none}
+use Rattle.frames_text.proofs.Pairs.{digits-joined, lf-none}
 use Rattle.session.specs.Bounded.{Held}
 use Rattle.session.specs.Enter.{LONGEST-KEPT}
 use Rattle.reader.specs.Rest.{digits-more, from-line, long-line}

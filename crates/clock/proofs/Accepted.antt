@@ -7,6 +7,7 @@ use mathlib.Core.Logic.{_⊎_, inl, inr, ⊎-elim, _↔_, _≢_}
 use mathlib.Core.Path.{_≡_, refl, ap}
 use lib.Dec.{eqb, ltb}
 use borrow.Author.Tests.{ltb-true, ltb-false, eqb-true, eqb-false}
+use Rattle.regs.proofs.Tests.{by-test}
 use Rattle.regs.specs.Program.{Outcome, outcome, behaviour}
 use Rattle.regs.specs.Registers.{ENABLE, FS-SCL-HCNT, FS-SCL-LCNT, FS-SPKLEN, SDA-HOLD}
 use Rattle.regs.specs.Fields.{set-ic-sda-tx-hold}
@@ -18,7 +19,7 @@ use Rattle.regs.specs.declared.access.Entry.{Entry}
 use Rattle.regs.specs.declared.access.Entry.the-variants.{Read, Write}
 use Rattle.clock.specs.SetConfig.{set-config, hold-below-1-mhz, hold-at-1-mhz, spklen, as-u16}
 use Rattle.clock.specs.Datasheet.{hcnt, lcnt, hold, NotRefused}
-use Rattle.clock.proofs.Agrees.{by-test, small}
+use Rattle.clock.proofs.Agrees.{small}
 
 -- with room for its seven accesses and a reading for SDA_HOLD
 abbrev pub left-by : ℕ → ℕ → ℕ → ℕ → List ℕ → Outcome (Unit {0}) Reply

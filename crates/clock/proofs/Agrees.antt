@@ -1,11 +1,12 @@
 -- The machine does what `set-config` does.
 use Prim.Native.Nat.{ℕ, _+_, _-_, _<_, _≤_}
 use native.Mathlib.Omega.{arith}
-use mathlib.Core.Bool.{Bool, true, false}
+use mathlib.Core.Bool.{false}
 use mathlib.Core.List.{List}
 use mathlib.Core.Path.{_≡_, refl}
 use lib.Dec.{eqb, ltb}
 use borrow.Author.Tests.{ltb-true, ltb-false, lt-ltb, le-ltb}
+use Rattle.regs.proofs.Tests.{by-test}
 use Rattle.regs.specs.Program.{ends}
 use Rattle.regs.proofs.Refine.{Agree, ends-agree, reads-agree, writes-agree}
 use Rattle.clock.specs.SetConfig.{set-config, set-counts, set-registers, hold-below-1-mhz, hold-at-1-mhz, spklen, as-u16}
@@ -13,11 +14,6 @@ use Rattle.clock.specs.Datasheet.{hcnt, lcnt, hold}
 use Rattle.clock.specs.Machine.{machine, fits, reaches, holds, start-of, after-disable}
 use Rattle.clock.specs.declared.Setting.{Setting}
 use Rattle.clock.specs.declared.Setting.the-variants.{Legal}
-
--- by cases of a test, with what it said
-pub by-test : {P : Type 0} (q : Bool) → (q ≡ true → P) → (q ≡ false → P) → P
-by-test true f g = f refl
-by-test false f g = g refl
 
 -- the hold rule as the machine tests it
 hold-test : (l d : ℕ) → 0 < d → ltb l (d + 2) ≡ ltb (l - 2) d

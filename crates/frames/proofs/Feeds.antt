@@ -7,14 +7,13 @@ use mathlib.Core.Bool.{Bool, true, false}
 use mathlib.Core.Path.{_≡_, refl, sym, ap, _∙_}
 use lib.ListN.{length, take, drop, length-append, length-take}
 use borrow.Author.Tests.{ltb-true, ltb-false}
-use Rattle.regs.specs.Program.{if_then_else_}
+use Rattle.regs.proofs.Tests.{false-true}
 use Rattle.frames_text.specs.Text.{lines-after, last-line}
 use Rattle.frames_text.specs.Appended.{Appended}
 use Rattle.calls.specs.Runs.{MOST-TEXT}
 use Rattle.session.specs.Session.{printed-from}
 use Rattle.session.specs.Bounded.{holds-call}
 use Rattle.session.specs.Enter.{session-of}
-use Rattle.frames_text.proofs.Pairs.{false-true}
 use Rattle.reader.specs.Rest.{Whole, rest, rest-of, digits-more, Sound, Went, begun-of, stopped-of, end-text}
 use Rattle.frames.specs.Fed.{FedAs, Finished}
 use Rattle.reader.specs.declared.Part.{Part}

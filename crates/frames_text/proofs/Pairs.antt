@@ -4,22 +4,15 @@ use native.Mathlib.Omega.{arith}
 use native.Mathlib.Numerals.{add-one}
 use mathlib.Core.Bool.{Bool, true, false, _&&_}
 use mathlib.Core.List.{List, [], _∷_, _++_, append-nil, append-assoc}
-use mathlib.Core.Path.{_≡_, refl, sym, ap, _∙_}
+use mathlib.Core.Path.{_≡_, refl, sym, _∙_}
 use lib.Dec.{eqb, ltb}
 use lib.ListN.{length, take, drop, getD, set, length-set, drop-of-length-le}
 use lib.Seq.{drop-cons, take-suc, take-suc-set, take-set-le, take-all}
 use borrow.Author.Tests.{ltb-true, ltb-false}
+use Rattle.regs.proofs.Tests.{both-of}
 use Rattle.regs.specs.Program.{if_then_else_}
 use Rattle.frames_text.specs.Text.{LF, digit-of, Bytes, these, none, and-bytes, bytes-of}
 use Rattle.frames_text.specs.Pairs.{all-digits, whole-pairs, values, PutAt}
-
-pub false-true : false ≡ true → ⊥
-false-true z = let y : _≡_ {A = ℕ} 0 1 = ap (λ (t : Bool). if t then 1 else 0) z in omega arith
-
--- both of two tests
-pub both-of : (a b : Bool) → a && b ≡ true → (a ≡ true) × (b ≡ true)
-both-of true b e = (refl, e)
-both-of false b e = absurd (false-true e)
 
 -- ---- every byte a digit
 

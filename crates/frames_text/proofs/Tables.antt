@@ -9,10 +9,10 @@ use mathlib.Core.Path.{_≡_, _∙_}
 use lib.Dec.{eqb}
 use lib.ListN.{length, getD}
 use borrow.Author.Tests.{eqb-true}
+use Rattle.regs.proofs.Tests.{both-of}
 use Rattle.regs.specs.Program.{if_then_else_}
 use Rattle.frames_text.specs.Text.{char-of}
 use Rattle.frames_text.specs.Pairs.{DigitPairs}
-use Rattle.frames_text.proofs.Pairs.{both-of}
 
 -- each entry is what f says of its place, counted from i
 unfoldable pub every : (ℕ → ℕ) → ℕ → List ℕ → Bool

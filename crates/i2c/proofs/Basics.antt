@@ -5,7 +5,8 @@ use mathlib.Core.Bool.{Bool, true, false, _&&_, true≢false}
 use mathlib.Core.List.{List}
 use mathlib.Core.Path.{_≡_, refl, sym}
 use lib.Dec.{eqb, ltb}
-use Rattle.regs.specs.Program.{if_then_else_, Behaviour, ends, reads, writes, marks, ok, err, by-turn, Poll, pending, ready, polled, wait-on, return, modify}
+use Rattle.regs.proofs.Tests.{by-test}
+use Rattle.regs.specs.Program.{Behaviour, ends, reads, writes, marks, ok, err, by-turn, Poll, pending, ready, polled, wait-on, return, modify}
 use Rattle.regs.specs.Registers.{INTR-MASK, RAW-INTR-STAT, CLR-STOP-DET}
 use Rattle.regs.specs.Fields.{stop-det, set-m-stop-det, set-m-tx-abrt}
 use Rattle.regs.specs.Machine.{Machine}
@@ -31,11 +32,6 @@ use Rattle.transfer.specs.declared.StopPoint.the-variants as S
 use Rattle.transfer.specs.declared.SetupPoint.the-variants.{Disable, Enable}
 use Rattle.transfer.specs.declared.Point.{Point}
 use Rattle.transfer.specs.declared.Point.the-variants.{Setup, Abort, Wait, Stop, Finished}
-
--- by cases of a test, with what it said
-pub by-test : {P : Type 0} (q : Bool) → (q ≡ true → P) → (q ≡ false → P) → P
-by-test true f g = f refl
-by-test false f g = g refl
 
 -- what a test of two says of each
 pub first : (a b : Bool) → (a && b) ≡ true → a ≡ true

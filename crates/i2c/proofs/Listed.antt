@@ -9,6 +9,7 @@ use lib.Dec.{eqb}
 use lib.ListN.{length, getD, take, drop, length-drop}
 use lib.Seq.{drop-cons, drop-drop, length-take-le}
 use borrow.Author.Tests.{lt-ltb, le-ltb, eq-eqb, ne-eqb, eqb-true}
+use Rattle.regs.proofs.Tests.{by-test}
 use Rattle.regs.specs.Program.{ends}
 use Rattle.regs.specs.declared.answers.Answer.the-variants.{Accepted}
 use Rattle.regs.proofs.Refine.{ends-agree}
@@ -19,7 +20,7 @@ use Rattle.transfer.specs.Points.{with-point, mode-of}
 use Rattle.transfer.specs.Machine.{next-at, opened, opened-write, opened-read, begun}
 use Rattle.transfer.specs.declared.Transfer.{Transfer}
 use Rattle.transfer.specs.declared.Point.{Point}
-use Rattle.i2c.proofs.Basics.{by-test, first, second, sum-is, M, Agrees}
+use Rattle.i2c.proofs.Basics.{first, second, sum-is, M, Agrees}
 use Rattle.i2c.proofs.Bytes.{Held}
 use Rattle.i2c.proofs.Operations.{read-agrees, write-agrees}
 

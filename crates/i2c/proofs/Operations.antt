@@ -6,6 +6,7 @@ use mathlib.Core.List.{List, [], _∷_}
 use mathlib.Core.Path.{_≡_, refl}
 use lib.Dec.{eqb}
 use borrow.Author.Tests.{eq-eqb, ne-eqb, eqb-false}
+use Rattle.regs.proofs.Tests.{by-test}
 use Rattle.regs.specs.Program.{Behaviour}
 use Rattle.regs.specs.declared.answers.Answer.{Answer}
 use Rattle.regs.proofs.Refine.{ends-agree}
@@ -17,7 +18,7 @@ use Rattle.transfer.specs.Machine.{next-at, write-point, read-point, some-read}
 use Rattle.transfer.specs.declared.Transfer.{Transfer}
 use Rattle.transfer.specs.declared.Mode.{Mode}
 use Rattle.transfer.specs.declared.Mode.the-variants.{Blocking, Async}
-use Rattle.i2c.proofs.Basics.{by-test, M, Agrees}
+use Rattle.i2c.proofs.Basics.{M, Agrees}
 use Rattle.i2c.proofs.Bytes.{Held}
 use Rattle.i2c.proofs.EndAsync.{Good}
 use Rattle.i2c.proofs.ReadsBlocking.{read-blocking-agrees}

@@ -8,6 +8,7 @@ use mathlib.Core.Path.{_≡_, refl}
 use lib.Dec.{eqb, ltb}
 use lib.ListN.{set}
 use borrow.Author.Tests.{lt-ltb, ne-eqb}
+use Rattle.regs.proofs.Tests.{by-test}
 use Rattle.regs.specs.Program.{_>>_, Behaviour, by-turn, rounds, wait-on, put, modify}
 use Rattle.regs.specs.Registers.{INTR-MASK, RX-TL}
 use Rattle.regs.specs.Fields.{dat, level, set-m-rx-full, set-m-tx-abrt}
@@ -27,7 +28,7 @@ use Rattle.transfer.specs.declared.RoundPoint.the-variants as Q
 use Rattle.transfer.specs.declared.Poll.the-variants as O
 use Rattle.transfer.specs.declared.Point.{Point}
 use Rattle.transfer.specs.declared.Point.the-variants.{ReadAsync}
-use Rattle.i2c.proofs.Basics.{by-test, sum-is, M, Agrees, reason-agrees, pend-agrees}
+use Rattle.i2c.proofs.Basics.{sum-is, M, Agrees, reason-agrees, pend-agrees}
 use Rattle.i2c.proofs.EndAsync.{Good, ending, ending-agrees}
 
 abbrev counted : ℕ → ℕ → ℕ → Round

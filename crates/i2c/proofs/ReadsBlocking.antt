@@ -6,6 +6,7 @@ use mathlib.Core.Path.{_≡_, refl, subst}
 use lib.Dec.{eqb, ltb}
 use lib.ListN.{set}
 use borrow.Author.Tests.{lt-ltb, le-ltb, ne-eqb}
+use Rattle.regs.proofs.Tests.{by-test}
 use Rattle.regs.specs.Program.{Behaviour, reads, stores, _>>=_, return}
 use Rattle.regs.specs.Registers.{DATA-CMD}
 use Rattle.regs.specs.Fields.{level, dat}
@@ -20,7 +21,7 @@ use Rattle.transfer.specs.declared.ReadPoint.the-variants as R
 use Rattle.transfer.specs.declared.Caller.the-variants as C
 use Rattle.transfer.specs.declared.Point.{Point}
 use Rattle.transfer.specs.declared.Point.the-variants.{ReadBlocking}
-use Rattle.i2c.proofs.Basics.{by-test, sum-is, M, Agrees, fails, reason-agrees}
+use Rattle.i2c.proofs.Basics.{sum-is, M, Agrees, fails, reason-agrees}
 
 module _ (kinds lengths bytes : List ℕ) (t : Transfer) (small : t .at + t .len ≤ 4096) (k : Unit {0} → Behaviour (Unit {0}) Answer) (top n : ℕ)
     (good : (m : ℕ) → m ≤ top → (p : Point) (b : List ℕ) → Agrees kinds lengths bytes m (begun kinds lengths (with-point t p)) b (k tt)) where

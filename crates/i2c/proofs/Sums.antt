@@ -10,12 +10,12 @@ use lib.Dec.{eqb}
 use lib.ListN.{length, getD, drop, drop-of-length-le}
 use lib.Seq.{drop-cons}
 use borrow.Author.Tests.{eqb-true, ne-eqb}
+use Rattle.regs.proofs.Tests.{by-test}
 use Rattle.regs.specs.Program.{if_then_else_}
 use Rattle.master.specs.Operations.{total, known, fits, READ, WRITE}
 use Rattle.i2c.specs.Limits.{add-total, add-totals, Small, add-up}
 use Rattle.i2c.specs.declared.limits.Totals.{Totals}
 use Rattle.i2c.specs.declared.limits.Totals.the-variants.{Sums, Unknown}
-use Rattle.i2c.proofs.Basics.{by-test}
 
 -- an unknown kind stays unknown
 stays-unknown : (kinds lengths : List ℕ) → add-totals Unknown kinds lengths ≡ Unknown

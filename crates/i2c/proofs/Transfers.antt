@@ -8,6 +8,7 @@ use lib.Dec.{ltb}
 use lib.ListN.{length}
 use lib.Seq.{take-length}
 use borrow.Author.Tests.{ne-eqb}
+use Rattle.regs.proofs.Tests.{by-test}
 use Rattle.regs.specs.Program.{Behaviour, ends}
 use Rattle.regs.specs.declared.answers.Answer.{Answer}
 use Rattle.regs.specs.declared.answers.Answer.the-variants.{Accepted}
@@ -22,7 +23,7 @@ use Rattle.transfer.specs.declared.Transfer.{Transfer}
 use Rattle.transfer.specs.declared.Mode.{Mode}
 use Rattle.transfer.specs.declared.Mode.the-variants.{Blocking, Async}
 use Rattle.transfer.specs.declared.Point.{Point}
-use Rattle.i2c.proofs.Basics.{by-test, M, Agrees, setup-agrees}
+use Rattle.i2c.proofs.Basics.{M, Agrees, setup-agrees}
 use Rattle.i2c.proofs.Operations.{read-agrees, write-agrees}
 use Rattle.i2c.proofs.Listed.{Left, last-listed, operations-agree}
 use Rattle.i2c.proofs.Bytes.{Held}

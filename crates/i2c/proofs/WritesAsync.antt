@@ -7,6 +7,7 @@ use mathlib.Core.Path.{_≡_, refl}
 use lib.Dec.{eqb, ltb}
 use lib.ListN.{getD}
 use borrow.Author.Tests.{lt-ltb, le-ltb, ne-eqb}
+use Rattle.regs.proofs.Tests.{by-test}
 use Rattle.regs.specs.Program.{_>>_, Behaviour, by-turn, wait-on, put, modify}
 use Rattle.regs.specs.Registers.{INTR-MASK, TX-TL}
 use Rattle.regs.specs.Fields.{level, set-m-tx-empty, set-m-tx-abrt}
@@ -25,7 +26,7 @@ use Rattle.transfer.specs.declared.FillPoint.the-variants as F
 use Rattle.transfer.specs.declared.Poll.the-variants as O
 use Rattle.transfer.specs.declared.Point.{Point}
 use Rattle.transfer.specs.declared.Point.the-variants.{Abort, WriteAsync}
-use Rattle.i2c.proofs.Basics.{by-test, M, Agrees, reason-agrees, pend-agrees}
+use Rattle.i2c.proofs.Basics.{M, Agrees, reason-agrees, pend-agrees}
 use Rattle.i2c.proofs.Bytes.{Held, held-head, held-end, held-last}
 use Rattle.i2c.proofs.EndAsync.{Good, ending, ending-agrees}
 

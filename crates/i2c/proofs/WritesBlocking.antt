@@ -7,6 +7,7 @@ use mathlib.Core.Path.{_≡_, refl, sym}
 use lib.Dec.{eqb}
 use lib.ListN.{length}
 use borrow.Author.Tests.{lt-ltb, le-ltb, ne-eqb}
+use Rattle.regs.proofs.Tests.{by-test}
 use Rattle.regs.specs.Program.{Behaviour, reads, when, while, skip, ok, get, _>>_}
 use Rattle.regs.specs.Registers.{RAW-INTR-STAT, CLR-STOP-DET}
 use Rattle.regs.specs.Fields.{tx-empty, stop-det}
@@ -24,7 +25,7 @@ use Rattle.transfer.specs.declared.StopPoint.the-variants as S
 use Rattle.transfer.specs.declared.Caller.the-variants as C
 use Rattle.transfer.specs.declared.Point.{Point}
 use Rattle.transfer.specs.declared.Point.the-variants.{WriteBlocking, Stop}
-use Rattle.i2c.proofs.Basics.{by-test, M, Agrees, fails, reason-agrees}
+use Rattle.i2c.proofs.Basics.{M, Agrees, fails, reason-agrees}
 use Rattle.i2c.proofs.Bytes.{Held, held-head}
 
 -- a negated test

@@ -8,10 +8,10 @@ use lib.Dec.{eqb, ltb}
 use lib.ListN.{length, drop, getD, length-append, length-drop}
 use lib.Seq.{take-append-seam, getD-take, drop-append-le}
 use borrow.Author.Tests.{ne-eqb, eq-eqb, eqb-true, eqb-false}
-use Rattle.regs.specs.Program.{if_then_else_}
+use Rattle.regs.proofs.Tests.{false-true}
 use Rattle.frames_text.specs.Text.{digit-of, number-at, these, none, bytes-of}
 use Rattle.frames_text.specs.Pairs.{all-digits, values}
-use Rattle.frames_text.proofs.Pairs.{false-true, digits-joined, length-values, written, unwritten}
+use Rattle.frames_text.proofs.Pairs.{digits-joined, length-values, written, unwritten}
 use Rattle.lines.specs.Frame.{bad, head-of, width, bytes-frame, frame-of}
 use Rattle.lines.proofs.Lengths.{long-bad}
 use Rattle.lines.specs.declared.Line.{Line}

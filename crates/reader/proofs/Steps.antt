@@ -10,11 +10,10 @@ use lib.Dec.{ltb}
 use lib.ListN.{length, take, drop, set, length-append, length-set, length-take}
 use lib.Seq.{length-take-le, take-suc-set, take-all, set-out}
 use borrow.Author.Tests.{ltb-true, ltb-false, ne-eqb}
-use Rattle.regs.specs.Program.{if_then_else_}
+use Rattle.regs.proofs.Tests.{both-of, false-true}
 use Rattle.frames_text.specs.Text.{lines-after, digit-of, these}
 use Rattle.frames_text.specs.Pairs.{all-digits, values}
 use Rattle.frames_text.specs.Appended.{Appended}
-use Rattle.frames_text.proofs.Pairs.{false-true, both-of}
 use Rattle.calls.specs.Runs.{MOST-TEXT, LOG-WORDS}
 use Rattle.lines.specs.Frame.{frame-of, head-of, width, bytes-frame}
 use Rattle.lines.specs.declared.Head.{Head}

@@ -9,9 +9,9 @@ use lib.Dec.{ltb, eqb}
 use lib.ListN.{length, take, drop, set, length-set}
 use lib.Seq.{take-suc-set, length-take-le}
 use borrow.Author.Tests.{lt-ltb, le-ltb, eqb-true}
+use Rattle.regs.proofs.Tests.{both-of, false-true}
 use Rattle.regs.specs.Program.{if_then_else_}
 use Rattle.slave_state.specs.declared.SlaveState.{SlaveState}
-use Rattle.frames_text.proofs.Pairs.{both-of}
 use Rattle.calls.specs.Calls.{MOST-READINGS}
 use Rattle.calls.specs.declared.Call.{Call}
 use Rattle.session.specs.Session.{complete, line-after, printed-from}
@@ -20,7 +20,6 @@ use Rattle.session.specs.Enter.{Arrays, arrays, kept-of, session-of}
 use Rattle.session.specs.declared.Wants.{Wants}
 use Rattle.session.specs.declared.Wants.the-variants.{Nothing}
 use Rattle.session.specs.declared.Open.{Open}
-use Rattle.frames_text.proofs.Pairs.{false-true}
 use Rattle.reader.specs.Rest.{whole, rest, rest-of, from-line, Sound, Went}
 use Rattle.reader.specs.declared.Part.{Part}
 use Rattle.reader.specs.declared.Part.the-variants.{Stopped, Text, Long}

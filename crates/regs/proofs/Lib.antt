@@ -5,10 +5,8 @@ pub mod Table
 pub mod Unroll
 pub mod Refine
 pub mod Lift
-pub mod Going
 pub mod Enough
 pub mod Spent
 pub mod Bounded
 pub mod Legal
-pub mod LegalExample
 pub mod RoundTrip

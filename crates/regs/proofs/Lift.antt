@@ -2,7 +2,7 @@
 -- what agrees with a behaviour in the one agrees with it in the other.
 use Prim.Native.Nat.{ℕ, zero, suc}
 use mathlib.Core.List.{List}
-use mathlib.Core.Path.{_≡_, _∙_, sym}
+use mathlib.Core.Path.{_≡_, _∙_}
 use lib.ListN.{set}
 use Rattle.regs.specs.Program.{Behaviour, ends, reads, writes, marks, stores, asks, keeps, cut}
 use Rattle.regs.specs.Machine.{Machine, stored-in}

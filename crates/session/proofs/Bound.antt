@@ -7,10 +7,10 @@ use mathlib.Core.Path.{_≡_, refl, sym, ap, _∙_}
 use lib.Dec.{ltb}
 use lib.ListN.{length, length-append}
 use borrow.Author.Tests.{ltb-true, lt-ltb}
+use Rattle.regs.proofs.Tests.{false-true}
 use Rattle.regs.specs.Program.{if_then_else_}
 use Rattle.master.specs.Operations.{Operation, writes, reads, READ, WRITE}
 use Rattle.slave_state.specs.declared.SlaveState.{SlaveState}
-use Rattle.frames_text.proofs.Pairs.{false-true}
 use Rattle.calls.specs.Calls.{MOST-READINGS, Listed, listed, listing, over, call-text, slave-after}
 use Rattle.calls.specs.declared.Call.{Call}
 use Rattle.frames_text.specs.Text.{lines, these}

@@ -9,11 +9,12 @@ use lib.Dec.{ltb}
 use lib.ListN.{length, take, set, length-set}
 use lib.Seq.{take-suc-set, length-take-le}
 use borrow.Author.Tests.{ltb-true}
+use Rattle.regs.proofs.Tests.{false-true}
 use Rattle.master.specs.Operations.{Operation, writes, reads}
 use Rattle.slave_state.specs.declared.SlaveState.{SlaveState}
 use Rattle.frames_text.specs.Text.{these, none, bytes-of}
 use Rattle.frames_text.specs.Pairs.{whole-pairs, values, PutAt}
-use Rattle.frames_text.proofs.Pairs.{false-true, length-values, written, unwritten}
+use Rattle.frames_text.proofs.Pairs.{length-values, written, unwritten}
 use Rattle.frames_text.proofs.Appends.{nothing}
 use Rattle.calls.specs.Calls.{MOST-READINGS, listing}
 use Rattle.calls.specs.Runs.{MOST-TEXT}

@@ -10,6 +10,7 @@ use lib.Dec.{ltb}
 use lib.ListN.{length, take, set, length-append, length-set}
 use lib.Seq.{take-suc-set, length-take-le}
 use borrow.Author.Tests.{ltb-false}
+use Rattle.regs.proofs.Tests.{false-true}
 use Rattle.regs.specs.Program.{if_then_else_}
 use Rattle.master.specs.Operations.{writes, reads}
 use Rattle.calls.specs.Calls.{listed, over}
@@ -17,7 +18,6 @@ use Rattle.session.specs.Bounded.{large, add}
 use Rattle.session.specs.Enter.{Arrays, arrays, kept-of, Within, Lent, over-of, too-many, added-to}
 use Rattle.session.specs.declared.Counts.{Counts}
 use Rattle.session.proofs.Bound.{add-wide}
-use Rattle.frames_text.proofs.Pairs.{false-true}
 
 -- none of three tests
 none-of : (a b c : Bool) → a || (b || c) ≡ false → (a ≡ false) × (b ≡ false) × (c ≡ false)

@@ -13,7 +13,6 @@ use Rattle.slave_steps.specs.Machine.{machine, slave}
 use Rattle.slave_steps.specs.declared.Slave.{Slave}
 use Rattle.slave_steps.specs.declared.Point.{Point}
 use Rattle.slave_steps.specs.declared.Point.the-variants.{Listening, Responding}
-use Rattle.runs.specs.Reaches.{Reaches}
 use Rattle.runs.proofs.Reach.{stays}
 use Rattle.slave_burst.specs.Bursts.{ForAny, Drains, Responds}
 use Rattle.slave_ahead.specs.GoesAhead.{GoesAhead, SendsBytes}

@@ -1,19 +1,18 @@
 -- `listen`, byte after byte.
-use Prim.Native.Nat.{ℕ, _+_, _*_, _/_, _-_, _<_, _≤_, _^_}
+use Prim.Native.Nat.{ℕ, _+_, _/_, _-_, _<_, _≤_, _^_}
 use native.Mathlib.Omega.{arith}
-use mathlib.Core.Bool.{Bool, true, false, not, _&&_}
+use mathlib.Core.Bool.{true, false, not, _&&_}
 use mathlib.Core.List.{List}
-use mathlib.Core.Path.{_≡_, refl, sym}
+use mathlib.Core.Path.{_≡_, refl}
 use lib.Dec.{eqb}
 use lib.ListN.{length, getD, set, length-set}
 use borrow.Author.Tests.{lt-ltb, not-true}
+use Rattle.regs.proofs.Tests.{both-of}
 use Rattle.regs.specs.Registers.{STATUS, DATA-CMD}
 use Rattle.regs.specs.Fields.{rfne, first-data-byte, dat}
 use Rattle.regs.specs.Machine.{entered}
 use Rattle.regs.specs.declared.access.Store.the-variants as S
-use Rattle.regs.proofs.Tests.{both-of}
 use Rattle.slave_state.specs.declared.SlaveState.{SlaveState}
-use Rattle.slave_state.specs.declared.Pending.the-variants.{None}
 use Rattle.slave_listen.specs.declared.ListenPoint.the-variants.{Status, DataCmd}
 use Rattle.slave_steps.specs.Machine.{machine, slave}
 use Rattle.slave_steps.specs.declared.Slave.{Slave}

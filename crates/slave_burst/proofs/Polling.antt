@@ -1,21 +1,21 @@
 -- `listen`, poll after poll.
 use Prim.Native.Nat.{ℕ, _+_, _/_, _<_, _≤_, _^_}
 use native.Mathlib.Omega.{arith}
-use mathlib.Core.Bool.{Bool, true, false, not, _&&_, and-false}
+use mathlib.Core.Bool.{true, false, not, _&&_, and-false}
 use mathlib.Core.List.{List}
-use mathlib.Core.Path.{_≡_, refl, sym, _∙_}
-use lib.Dec.{eqb, ltb}
+use mathlib.Core.Path.{_≡_, refl, _∙_}
+use lib.Dec.{eqb}
 use lib.ListN.{length, getD}
 use borrow.Author.Tests.{lt-ltb, ne-eqb, eqb-false, not-true}
+use Rattle.regs.proofs.Tests.{both-of}
 use Rattle.regs.specs.Registers.{STATUS, RX-TL, INTR-MASK, RAW-INTR-STAT, RXFLR}
 use Rattle.regs.specs.Program.{PENDING}
 use Rattle.regs.specs.Fields.{rfne, rd-req, stop-det, level}
 use Rattle.regs.specs.Machine.{entered}
 use Rattle.regs.specs.declared.access.Store.the-variants as S
-use Rattle.regs.proofs.Tests.{both-of}
 use Rattle.slave_state.specs.declared.SlaveState.{SlaveState}
 use Rattle.slave_state.specs.declared.Pending.the-variants.{None}
-use Rattle.slave_listen.specs.declared.ListenPoint.the-variants.{Status, Watermark, IntrMask, Mark, RawIntrStat, Rxflr}
+use Rattle.slave_listen.specs.declared.ListenPoint.the-variants.{Status, Watermark, IntrMask, RawIntrStat, Rxflr}
 use Rattle.slave_steps.specs.Machine.{machine, slave}
 use Rattle.slave_steps.specs.declared.Slave.{Slave}
 use Rattle.slave_steps.specs.declared.Point.the-variants.{Listening}

@@ -5,7 +5,6 @@ use runs::put_read;
 use runs::put_write;
 use slave_respond::chunk_end;
 use slave_respond::wide;
-ghost use mathlib.Core.Path.{_≡_};
 ghost use Prim.Native.Nat.{ℕ, _+_, _*_, _/_, _<_, _≤_, _^_};
 ghost use lib.ListN.{length};
 ghost use Rattle.slave_respond.specs.declared.RespondPoint.the-variants.{RawIntrStat, ClrRdReq, IntrMask};

@@ -7,6 +7,7 @@ use mathlib.Core.Path.{_≡_, refl}
 use lib.Dec.{eqb, ltb}
 use lib.ListN.{set}
 use borrow.Author.Tests.{lt-ltb, le-ltb}
+use Rattle.regs.proofs.Tests.{by-test}
 use Rattle.regs.specs.Registers.{RX-TL, INTR-MASK}
 use Rattle.regs.specs.Fields.{set-field, dat, rd-req, stop-det, gen-call, restart-det, rfne, level}
 use Rattle.regs.specs.Program.{Behaviour, ends, writes, put, by-turn, polled, pending}
@@ -21,7 +22,7 @@ use Rattle.slave_state.specs.declared.SlaveState.{SlaveState}
 use Rattle.slave_state.specs.declared.Pending.{Pending}
 use Rattle.slave_state.specs.declared.Pending.the-variants.{None, Byte}
 use Rattle.slave_listen.specs.declared.ListenPoint.the-variants as L
-use Rattle.slave_state.proofs.Basics.{state, by-test, or-true, none-pending}
+use Rattle.slave_state.proofs.Basics.{state, or-true, none-pending}
 
 -- the code's mask is what the setters make of 0
 mask-is : N.Write INTR-MASK 0x1a24 ≡ N.Write INTR-MASK listen-mask

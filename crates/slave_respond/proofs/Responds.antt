@@ -9,6 +9,7 @@ use lib.Dec.{eqb, ltb}
 use lib.ListN.{length, getD, take, drop, replicate, getD-replicate, length-drop, drop-of-length-le}
 use lib.Seq.{drop-cons, drop-drop, take-all}
 use borrow.Author.Tests.{lt-ltb, le-ltb, ltb-true, ltb-false}
+use Rattle.regs.proofs.Tests.{by-test}
 use Rattle.regs.specs.Registers.{INTR-MASK, DATA-CMD}
 use Rattle.regs.specs.Fields.{set-field, tx-empty, rd-req, tx-abrt, rx-done}
 use Rattle.regs.specs.Program.{Behaviour, ends, put, by-turn, polled, pending, wait-on, Result, ok, err}
@@ -30,7 +31,6 @@ use Rattle.slave_respond.specs.declared.Job.{Job}
 use Rattle.slave_respond.specs.declared.Job.the-variants.{Respond, RespondThenFill, Fill, FillAfter}
 use Rattle.slave_respond.specs.declared.RespondPoint.the-variants as P
 use Rattle.slave_respond.specs.declared.Response.{Response}
-use Rattle.slave_state.proofs.Basics.{by-test}
 
 -- the code's mask is what the setters make of 0
 mask-is : N.Write INTR-MASK 0xd0 ≡ N.Write INTR-MASK respond-mask

@@ -20,11 +20,6 @@ Out = outcome Answered LogFull OutOfReadings
 abbrev pub state : Pending → ℕ → Bool → SlaveState
 state p address g = record { «pending_byte» = p; address = address; «general_call» = g }
 
--- by cases of a test, with what it said
-pub by-test : {P : Type 0} (q : Bool) → (q ≡ true → P) → (q ≡ false → P) → P
-by-test true f g = f refl
-by-test false f g = g refl
-
 pub or-true : (q : Bool) → (q || true) ≡ true
 or-true true = refl
 or-true false = refl

@@ -4,6 +4,7 @@ use mathlib.Core.List.{List, [], _∷_}
 use mathlib.Core.Path.{_≡_}
 use lib.Dec.{ltb}
 use lib.ListN.{length, take, drop, replicate}
+use Rattle.regs.proofs.Tests.{by-test}
 use Rattle.regs.specs.Program.{Behaviour, ends, outcome, just, Result, ok, err, rounds, by-turn}
 use Rattle.regs.specs.declared.answers.AbortReason.the-variants.{TxNotEmpty}
 use Rattle.regs.specs.declared.answers.Answer.{Answer}
@@ -13,7 +14,6 @@ use Rattle.regs.specs.declared.answers.Refusal.{Refusal}
 use Rattle.regs.specs.declared.answers.Reply.the-variants.{Answered}
 use Rattle.slave_state.specs.I2cSlave.{FIFO-SIZE, abort-reason, respond-to-read, till-stop, respond-till-stop, respond-and-fill, respond-to-read-call, respond-till-stop-call, respond-and-fill-call}
 use Rattle.slave_state.specs.declared.SlaveState.{SlaveState}
-use Rattle.slave_state.proofs.Basics.{by-test}
 use Rattle.slave_state.proofs.Waits.{Claim, Kept, All, cut-all, waits}
 
 -- the answers that P holds of: a status with all bytes sent, LeftoverBytes of the source that was read last, a refusal

@@ -10,6 +10,7 @@ use lib.Dec.{eqb, ltb}
 use lib.ListN.{length, take, drop, set, length-set}
 use lib.Seq.{take-suc-set, drop-set-lt}
 use borrow.Author.Tests.{eqb-false}
+use Rattle.regs.proofs.Tests.{by-test}
 use Rattle.regs.specs.Registers.{DATA-CMD, RX-TL, INTR-MASK}
 use Rattle.regs.specs.Fields.{dat, first-data-byte, rd-req, stop-det, gen-call, restart-det, rfne, level}
 use Rattle.regs.specs.Program.{Behaviour, ends, reads, writes, marks, stores, asks, keeps, cut, rounds, put, by-turn, polled, pending, when, exit, return, _>>_, _>>=_, Outcome, outcome, just, logged}
@@ -27,7 +28,7 @@ use Rattle.slave_state.specs.Counts.{bytes-read, pending-bytes, Says, Tr
 use Rattle.slave_state.specs.declared.Pending.{Pending}
 use Rattle.slave_state.specs.declared.Pending.the-variants.{None, Byte}
 use Rattle.slave_state.specs.declared.SlaveState.{SlaveState}
-use Rattle.slave_state.proofs.Basics.{Out, state, by-test, or-true, none-pending}
+use Rattle.slave_state.proofs.Basics.{Out, state, or-true, none-pending}
 
 -- with len bytes stored at the front of b and the bytes w waiting to be stored, o ends with n bytes stored
 record From (n len : ℕ) (b w : List ℕ) (o : Outcome SlaveState Reply) : Type 0 where

@@ -7,6 +7,7 @@ use mathlib.Core.Path.{_≡_, refl}
 use mathlib.Core.Logic.{_⊎_, inl, inr}
 use lib.Dec.{eqb}
 use lib.ListN.{take, drop}
+use Rattle.regs.proofs.Tests.{by-test}
 use Rattle.regs.specs.Registers.{DATA-CMD, INTR-MASK, TX-ABRT-SOURCE}
 use Rattle.regs.specs.Fields.{tx-empty, rd-req, tx-abrt, rx-done}
 use Rattle.regs.specs.Program.{Behaviour, reads, writes, marks, cut, rounds, put, by-turn, polled, pending, wait-on, Result, ok, err, Outcome, outcome, just, logged, PENDING}
@@ -22,7 +23,7 @@ use Rattle.regs.specs.declared.answers.Reply.{Reply}
 use Rattle.regs.specs.declared.answers.Reply.the-variants.{LogFull, OutOfReadings}
 use Rattle.slave_state.specs.I2cSlave.{Driver, FIFO-SIZE, Responded-to, abort-reason, send-chunk, respond-chunk, respond-abort, respond-poll, respond-mask}
 use Rattle.slave_state.specs.declared.SlaveState.{SlaveState}
-use Rattle.slave_state.proofs.Basics.{Out, by-test}
+use Rattle.slave_state.proofs.Basics.{Out}
 
 abbrev pub Claim : Type 1
 Claim = ℕ → List ℕ → List ℕ → Outcome SlaveState Reply → Type 0

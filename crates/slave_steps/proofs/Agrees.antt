@@ -7,6 +7,7 @@ use mathlib.Core.Path.{_≡_, refl}
 use lib.Dec.{eqb, ltb, eqb·suc-zero}
 use lib.ListN.{length}
 use borrow.Author.Tests.{eqb-false}
+use Rattle.regs.proofs.Tests.{by-test}
 use Rattle.regs.specs.Program.{Behaviour, ends, _>>_, _>>=_, return, when, exit}
 use Rattle.regs.specs.Machine.{Machine}
 use Rattle.regs.specs.declared.answers.Answer.{Answer}
@@ -18,7 +19,7 @@ use Rattle.slave_state.specs.I2cSlave.{is-some, listen, answer, listen-call, re
 use Rattle.slave_state.specs.declared.SlaveState.{SlaveState}
 use Rattle.slave_state.specs.declared.Pending.{Pending}
 use Rattle.slave_state.specs.declared.Pending.the-variants.{None, Byte}
-use Rattle.slave_state.proofs.Basics.{state, by-test, none-pending}
+use Rattle.slave_state.proofs.Basics.{state, none-pending}
 use Rattle.slave_listen.specs.Machine.{Listener, machine as listening}
 use Rattle.slave_listen.proofs.Listens.{listens}
 use Rattle.slave_respond.specs.Machine.{Responder, machine as responding}

@@ -4,13 +4,13 @@ use mathlib.Core.Bool.{Bool}
 use mathlib.Core.List.{List}
 use mathlib.Core.Path.{refl}
 use lib.Dec.{eqb}
+use Rattle.regs.proofs.Tests.{by-test}
 use Rattle.regs.specs.Program.{ends}
 use Rattle.regs.specs.Machine.{Machine}
 use Rattle.regs.proofs.Refine.{Agree, ends-agree, reads-agree, writes-agree, marks-agree, asks-agree, keeps-agree}
 use Rattle.slave_state.specs.I2cSlave.{reset, reset-call}
 use Rattle.slave_steps.specs.Machine.{machine, start-reset}
 use Rattle.slave_state.specs.declared.SlaveState.{SlaveState}
-use Rattle.slave_state.proofs.Basics.{by-test}
 
 module _ (bytes : List ℕ) where
   abbrev M : Machine

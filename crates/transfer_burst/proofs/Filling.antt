@@ -1,7 +1,7 @@
 -- The bytes of a round of an async write.
 use Prim.Native.Nat.{ℕ, _+_, _/_, _-_, _<_, _≤_, _^_}
 use native.Mathlib.Omega.{arith}
-use mathlib.Core.Bool.{Bool, true, false}
+use mathlib.Core.Bool.{false}
 use mathlib.Core.List.{List}
 use mathlib.Core.Path.{_≡_, refl}
 use lib.Dec.{eqb}

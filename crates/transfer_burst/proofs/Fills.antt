@@ -4,7 +4,7 @@ use native.Mathlib.Omega.{arith}
 use mathlib.Core.Bool.{Bool}
 use mathlib.Core.List.{List}
 use mathlib.Core.Path.{_≡_, refl, _∙_}
-use lib.ListN.{length, length-set, getD}
+use lib.ListN.{length, getD}
 use borrow.Author.Tests.{le-ltb, lt-ltb, eq-eqb, ne-eqb}
 use Rattle.regs.specs.Registers.{TXFLR, TX-ABRT-SOURCE}
 use Rattle.regs.specs.Fields.{level}

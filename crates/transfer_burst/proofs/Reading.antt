@@ -1,16 +1,16 @@
 -- A blocking read, byte after byte.
-use Prim.Native.Nat.{ℕ, _+_, _*_, _/_, _-_, _%_, _<_, _≤_, _^_}
+use Prim.Native.Nat.{ℕ, _+_, _/_, _-_, _%_, _<_, _≤_, _^_}
 use native.Mathlib.Omega.{arith}
 use mathlib.Core.Bool.{Bool, true, false, not, _&&_, and-false}
 use mathlib.Core.List.{List}
-use mathlib.Core.Path.{_≡_, refl, sym, ap, _∙_}
+use mathlib.Core.Path.{_≡_, refl}
 use lib.Dec.{eqb, ltb}
 use lib.ListN.{length, getD, set, length-set}
 use borrow.Author.Tests.{lt-ltb, le-ltb, ltb-true, eqb-false, not-true, ne-eqb}
+use Rattle.regs.proofs.Tests.{both-of}
 use Rattle.regs.specs.Registers.{DATA-CMD, TXFLR, RXFLR}
 use Rattle.regs.specs.Fields.{level, dat, command-word}
 use Rattle.regs.specs.Machine.{entered}
-use Rattle.regs.proofs.Tests.{both-of}
 use Rattle.transfer.specs.Points.{with-point}
 use Rattle.transfer.specs.Machine.{machine, next-at, next-read, read-word, store-at, store-read, step-of, step-read, room-step, level-step, places}
 use Rattle.transfer.specs.declared.Transfer.{Transfer}

@@ -1,11 +1,10 @@
 -- Rounds of an async read.
 use Prim.Native.Nat.{ℕ, _+_, _/_, _-_, _<_, _≤_, _^_, min}
 use native.Mathlib.Omega.{arith}
-use mathlib.Core.Bool.{Bool, true, false}
+use mathlib.Core.Bool.{Bool}
 use mathlib.Core.List.{List}
 use mathlib.Core.Path.{_≡_, refl, sym, _∙_}
-use lib.Dec.{eqb, ltb}
-use lib.ListN.{length, length-set, getD}
+use lib.ListN.{length, getD}
 use borrow.Author.Tests.{le-ltb, eq-eqb, ne-eqb}
 use Rattle.regs.specs.Registers.{TXFLR, RXFLR, TX-ABRT-SOURCE}
 use Rattle.regs.specs.Fields.{level}

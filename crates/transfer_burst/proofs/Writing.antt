@@ -1,16 +1,16 @@
 -- A blocking write, byte after byte.
-use Prim.Native.Nat.{ℕ, _+_, _*_, _/_, _-_, _<_, _≤_, _^_}
+use Prim.Native.Nat.{ℕ, _+_, _/_, _-_, _<_, _≤_, _^_}
 use native.Mathlib.Omega.{arith}
-use mathlib.Core.Bool.{Bool, true, false, _&&_, and-false}
+use mathlib.Core.Bool.{Bool, true, false, and-false}
 use mathlib.Core.List.{List}
 use mathlib.Core.Path.{_≡_, refl}
 use lib.Dec.{eqb}
 use lib.ListN.{length, getD, length-set}
 use borrow.Author.Tests.{lt-ltb, eqb-true, eq-eqb, ne-eqb}
+use Rattle.regs.proofs.Tests.{both-of}
 use Rattle.regs.specs.Registers.{DATA-CMD, RAW-INTR-STAT, TX-ABRT-SOURCE}
 use Rattle.regs.specs.Fields.{tx-empty, command-word}
 use Rattle.regs.specs.Machine.{entered}
-use Rattle.regs.proofs.Tests.{both-of}
 use Rattle.transfer.specs.Points.{with-point}
 use Rattle.transfer.specs.Machine.{machine, next-at, next-write, next-abort, write-word, store-at, step-of, step-write, step-abort, returned, closes}
 use Rattle.transfer.specs.declared.Transfer.{Transfer}

@@ -13,7 +13,7 @@ use Rattle.transfer.specs.declared.Point.{Point}
 use Rattle.transfer.specs.declared.Point.the-variants.{ReadAsync, WriteAsync, Abort}
 use Rattle.transfer.specs.declared.AbortPoint.the-variants.{Source}
 use Rattle.transfer.specs.declared.Caller.the-variants.{Space}
-use Rattle.transfer.specs.declared.FillPoint.the-variants.{Fill, Free}
+use Rattle.transfer.specs.declared.FillPoint.the-variants.{Fill}
 use Rattle.transfer.specs.declared.Round.{Round}
 use Rattle.transfer.specs.declared.RoundPoint.the-variants.{Capacity, Queue, Level, Fetch}
 use Rattle.runs.specs.Reaches.{Reaches}

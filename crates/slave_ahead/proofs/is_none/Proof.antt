@@ -1,8 +1,8 @@
 -- `slave_ahead::is_none` meets its contract.
 use borrow.Author.Needs.{needs}
+use Rattle.regs.proofs.Tests.{false-true}
 use Rattle.slave_ahead.proofs.is_none.Statement.{statement}
 use Rattle.slave_ahead.proofs.is_none.Tie as tie
-use Rattle.regs.proofs.Tests.{false-true}
 
 enum-told : tie.Need-enum-told
 enum-told c = search needs

@@ -1,8 +1,8 @@
 -- `slave_ahead::sends_bytes` meets its contract.
 use borrow.Author.Needs.{needs}
+use Rattle.regs.proofs.Tests.{false-true}
 use Rattle.slave_ahead.proofs.sends_bytes.Statement.{statement}
 use Rattle.slave_ahead.proofs.sends_bytes.Tie as tie
-use Rattle.regs.proofs.Tests.{false-true}
 use mathlib.Core.Path.{refl}
 
 enum-told : tie.Need-enum-told

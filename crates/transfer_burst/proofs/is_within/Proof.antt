@@ -1,10 +1,9 @@
 -- `transfer_burst::is_within` meets its contract.
+use Rattle.regs.proofs.Tests.{false-true}
 use Rattle.transfer_burst.proofs.is_within.Statement.{statement}
 use Rattle.transfer_burst.proofs.is_within.Tie as tie
 use native.Mathlib.Omega.{arith}
 use borrow.Author.Tests.{leb-true}
-use Rattle.regs.proofs.Tests.{false-true}
-use borrow.Author.Needs.{needs}
 use Prim.Native.Nat.{_-_, _≤_}
 
 returns : tie.Need-returns

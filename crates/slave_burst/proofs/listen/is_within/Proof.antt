@@ -1,10 +1,9 @@
 -- `slave_burst::listen::is_within` meets its contract.
-use borrow.Author.Needs.{needs}
+use Rattle.regs.proofs.Tests.{false-true}
 use Rattle.slave_burst.proofs.listen.is_within.Statement.{statement}
 use Rattle.slave_burst.proofs.listen.is_within.Tie as tie
 use native.Mathlib.Omega.{arith}
 use borrow.Author.Tests.{leb-true}
-use Rattle.regs.proofs.Tests.{false-true}
 
 returns : tie.Need-returns
 returns c = λ z. absurd (false-true z)

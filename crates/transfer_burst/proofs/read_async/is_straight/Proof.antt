@@ -1,10 +1,10 @@
 -- `transfer_burst::read_async::is_straight` meets its contract.
 use borrow.Author.Needs.{needs}
+use Rattle.regs.proofs.Tests.{false-true}
 use Rattle.transfer_burst.proofs.read_async.is_straight.Statement.{statement}
 use Rattle.transfer_burst.proofs.read_async.is_straight.Tie as tie
 use native.Mathlib.Omega.{arith}
 use borrow.Author.Tests.{leb-true}
-use Rattle.regs.proofs.Tests.{false-true}
 
 cast-count : tie.Need-cast-count
 cast-count c = search needs

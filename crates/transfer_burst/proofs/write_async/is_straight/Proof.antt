@@ -1,10 +1,10 @@
 -- `transfer_burst::write_async::is_straight` meets its contract.
 use borrow.Author.Needs.{needs}
+use Rattle.regs.proofs.Tests.{false-true}
 use Rattle.transfer_burst.proofs.write_async.is_straight.Statement.{statement}
 use Rattle.transfer_burst.proofs.write_async.is_straight.Tie as tie
 use native.Mathlib.Omega.{arith}
 use borrow.Author.Tests.{leb-true}
-use Rattle.regs.proofs.Tests.{false-true}
 
 add-if1 : tie.Need-add-if1
 add-if1 c = search needs
