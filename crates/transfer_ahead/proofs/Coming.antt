@@ -12,7 +12,8 @@ use Rattle.transfer.specs.declared.Round.{Round}
 use Rattle.transfer.specs.declared.RoundPoint.the-variants.{Capacity}
 use Rattle.runs.specs.Reaches.{Reaches}
 use Rattle.runs.proofs.Reach.{stays}
-use Rattle.transfer_burst.specs.Bursts.{Bursts, Rounds}
+use Rattle.transfer_burst.specs.Bursts.{Bursts}
+use Rattle.transfer_rounds.specs.Rounds.{Rounds}
 use Rattle.transfer_ahead.specs.GoesAhead.{GoesAhead}
 use Rattle.transfer_ahead.specs.declared.Ahead.{Ahead}
 

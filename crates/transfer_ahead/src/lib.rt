@@ -7,8 +7,10 @@ use transfer::RoundPoint;
 use transfer::Transfer;
 use transfer::WritePoint;
 ghost use mathlib.Core.Path.{_≡_};
-ghost use Prim.Native.Nat.{_/_, _≤_};
+ghost use mathlib.Core.List.{List};
+ghost use Prim.Native.Nat.{ℕ, _/_, _≤_};
 ghost use lib.ListN.{length};
+ghost use Rattle.transfer_burst.specs.Bursts.{ForAny};
 ghost use Rattle.transfer_ahead.specs.GoesAhead.{GoesAhead};
 
 // How far a transfer came: its point, the readings used and the entries in the log.
@@ -28,6 +30,136 @@ fn came(point: Point, used: usize, entries: usize) -> Ahead
     }
 }
 
+// In a blocking read.
+fn read_from(
+    t: Transfer,
+    i: u16,
+    readings: &[u32],
+    used: usize,
+    log: &mut [u32],
+    entries: usize,
+    buffer: &mut [u8],
+) -> Ahead
+    requires { ⌜ (t .point ≡ Point.ReadBlocking (ReadPoint.Room i)) × (entries ≤ length (now log) / 2) ⌝ }
+    ensures { λ r. ⌜ ForAny (λ (bytes : List ℕ). GoesAhead bytes (now (readings .entry)) (now (log .entry)) (now (buffer .entry)) (now (log .exit)) (now (buffer .exit)) t used entries r) ⌝ }
+{
+    let b = transfer_burst::read_blocking::burst(
+        i,
+        t.len,
+        t.at,
+        t.restart,
+        readings,
+        used,
+        log,
+        entries,
+        buffer,
+    );
+    came(
+        Point::ReadBlocking(ReadPoint::Room(b.index)),
+        b.used,
+        b.entries,
+    )
+}
+
+// In a blocking write.
+fn write_from(
+    t: Transfer,
+    i: u16,
+    bytes: &[u8],
+    readings: &[u32],
+    used: usize,
+    log: &mut [u32],
+    entries: usize,
+) -> Ahead
+    requires { ⌜ (t .point ≡ Point.WriteBlocking (WritePoint.Send i)) × (entries ≤ length (now log) / 2) ⌝ }
+    ensures { λ r. ⌜ ForAny (λ (buffer : List ℕ). GoesAhead (now (bytes .entry)) (now (readings .entry)) (now (log .entry)) buffer (now (log .exit)) buffer t used entries r) ⌝ }
+{
+    let b = transfer_burst::write_blocking::burst(
+        i,
+        t.len,
+        t.at,
+        bytes,
+        readings,
+        used,
+        log,
+        entries,
+    );
+    came(
+        Point::WriteBlocking(WritePoint::Send(b.index)),
+        b.used,
+        b.entries,
+    )
+}
+
+// In an async read.
+fn rounds_from(
+    t: Transfer,
+    round: Round,
+    readings: &[u32],
+    used: usize,
+    log: &mut [u32],
+    entries: usize,
+    buffer: &mut [u8],
+) -> Ahead
+    requires { ⌜ (t .point ≡ Point.ReadAsync (RoundPoint.Capacity round)) × (entries ≤ length (now log) / 2) ⌝ }
+    ensures { λ r. ⌜ ForAny (λ (bytes : List ℕ). GoesAhead bytes (now (readings .entry)) (now (log .entry)) (now (buffer .entry)) (now (log .exit)) (now (buffer .exit)) t used entries r) ⌝ }
+{
+    let c = transfer_rounds::read_async::burst(
+        round.remaining,
+        round.queue,
+        round.batch,
+        t.len,
+        t.at,
+        t.send_stop,
+        t.restart,
+        readings,
+        used,
+        log,
+        entries,
+        buffer,
+    );
+    let next = Round {
+        remaining: c.remaining,
+        queue: c.queue,
+        batch: c.batch,
+    };
+    came(
+        Point::ReadAsync(RoundPoint::Capacity(next)),
+        c.used,
+        c.entries,
+    )
+}
+
+// In an async write.
+fn fills_from(
+    t: Transfer,
+    i: u16,
+    bytes: &[u8],
+    readings: &[u32],
+    used: usize,
+    log: &mut [u32],
+    entries: usize,
+) -> Ahead
+    requires { ⌜ (t .point ≡ Point.WriteAsync (FillPoint.Free i)) × (entries ≤ length (now log) / 2) ⌝ }
+    ensures { λ r. ⌜ ForAny (λ (buffer : List ℕ). GoesAhead (now (bytes .entry)) (now (readings .entry)) (now (log .entry)) buffer (now (log .exit)) buffer t used entries r) ⌝ }
+{
+    let b = transfer_rounds::write_async::burst(
+        i,
+        t.len,
+        t.at,
+        bytes,
+        readings,
+        used,
+        log,
+        entries,
+    );
+    came(
+        Point::WriteAsync(FillPoint::Free(b.index)),
+        b.used,
+        b.entries,
+    )
+}
+
 pub fn burst_from(
     t: Transfer,
     bytes: &[u8],
@@ -43,92 +175,27 @@ pub fn burst_from(
     let p = t.point;
     match p {
         Point::ReadBlocking(r) => match r {
-            ReadPoint::Room(i) => {
-                let b = transfer_burst::read_blocking::burst(
-                    i,
-                    t.len,
-                    t.at,
-                    t.restart,
-                    readings,
-                    used,
-                    log,
-                    entries,
-                    buffer,
-                );
-                came(
-                    Point::ReadBlocking(ReadPoint::Room(b.index)),
-                    b.used,
-                    b.entries,
-                )
-            }
+            ReadPoint::Room(i) => read_from(t, i, readings, used, log, entries, buffer),
             _ => came(p, used, entries),
         },
         Point::WriteBlocking(w) => match w {
-            WritePoint::Send(i) => {
-                let b = transfer_burst::write_blocking::burst(
-                    i,
-                    t.len,
-                    t.at,
-                    bytes,
-                    readings,
-                    used,
-                    log,
-                    entries,
-                );
-                came(
-                    Point::WriteBlocking(WritePoint::Send(b.index)),
-                    b.used,
-                    b.entries,
-                )
-            }
+            WritePoint::Send(i) => write_from(t, i, bytes, readings, used, log, entries),
             _ => came(p, used, entries),
         },
         Point::ReadAsync(q) => match q {
-            RoundPoint::Capacity(round) => {
-                let c = transfer_burst::read_async::burst(
-                    round.remaining,
-                    round.queue,
-                    round.batch,
-                    t.len,
-                    t.at,
-                    t.send_stop,
-                    t.restart,
-                    readings,
-                    used,
-                    log,
-                    entries,
-                    buffer,
-                );
-                came(
-                    Point::ReadAsync(RoundPoint::Capacity(Round {
-                        remaining: c.remaining,
-                        queue: c.queue,
-                        batch: c.batch,
-                    })),
-                    c.used,
-                    c.entries,
-                )
-            }
+            RoundPoint::Capacity(round) => rounds_from(
+                t,
+                round,
+                readings,
+                used,
+                log,
+                entries,
+                buffer,
+            ),
             _ => came(p, used, entries),
         },
         Point::WriteAsync(f) => match f {
-            FillPoint::Free(i) => {
-                let b = transfer_burst::write_async::burst(
-                    i,
-                    t.len,
-                    t.at,
-                    bytes,
-                    readings,
-                    used,
-                    log,
-                    entries,
-                );
-                came(
-                    Point::WriteAsync(FillPoint::Free(b.index)),
-                    b.used,
-                    b.entries,
-                )
-            }
+            FillPoint::Free(i) => fills_from(t, i, bytes, readings, used, log, entries),
             _ => came(p, used, entries),
         },
         _ => came(p, used, entries),

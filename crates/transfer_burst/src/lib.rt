@@ -1,15 +1,11 @@
-// Bursts of a transfer: the accesses of whole bytes or rounds in one loop, where the readings lead straight on. Each takes the place of the machine's steps between two
-// points; what is off that way, and the end of an operation, is left to the machine.
+// Bursts of a transfer: the accesses of whole bytes in one loop, where the readings lead straight on. Each takes the place of the machine's steps between two
+// points; what is off that way, and the end of an operation, is left to the machine. The rounds of the async operations are in `transfer_rounds`.
 pub mod read_blocking; // byte after byte
 pub mod write_blocking; // byte after byte
-pub mod read_async; // round after round
-pub mod write_async; // round after round
 
-use regs::fields::level_of;
 ghost use mathlib.Core.Bool.{true};
 ghost use mathlib.Core.Path.{_≡_};
-ghost use Prim.Native.Nat.{_+_, _-_, _<_, _≤_};
-ghost use Rattle.regs.specs.Fields.{level};
+ghost use Prim.Native.Nat.{_+_, _<_, _≤_};
 
 // How far a burst came: the byte that is next, the readings used and the entries in the log.
 pub struct Burst {
@@ -19,7 +15,7 @@ pub struct Burst {
 }
 
 // Whether byte i is one of an operation's, its bytes have their places, and the readings were there.
-fn is_within(i: u16, len: u16, at: usize, length: usize, used: usize, count: usize) -> bool
+pub fn is_within(i: u16, len: u16, at: usize, length: usize, used: usize, count: usize) -> bool
     ensures { λ r. ⌜ (r ≡ true → (i < len) × (at + len ≤ length) × (used ≤ count)) ⌝ }
 {
     if i >= len {
@@ -43,12 +39,4 @@ fn ahead(from: u16, len: u16, entries: usize, readings: usize) -> usize
         len as usize - 1 - from as usize,
         runs::least(entries, readings),
     )
-}
-
-// The places of the transmit FIFO that are free by TXFLR.
-fn free(v: u32) -> u16
-    ensures { λ r. ⌜ r ≡ 16 - level v ⌝ }
-{
-    let n = level_of(v);
-    if n < 16 { (16 - n) as u16 } else { 0 }
 }

@@ -4,10 +4,9 @@ use Rattle.transfer_ahead.proofs.burst_from.Statement.{statement}
 use Rattle.transfer_ahead.proofs.burst_from.Tie as tie
 use native.Mathlib.Omega.{arith}
 use denote.Ref.{now}
-use mathlib.Core.Path.{ap, _∙_}
-use Rattle.transfer.specs.declared.Point.the-variants.{ReadBlocking, WriteBlocking, ReadAsync, WriteAsync}
-use Rattle.transfer_ahead.proofs.Coming.{not-ahead, burst-ahead, rounds-ahead}
 use mathlib.Core.Path.{sym, ap, _∙_}
+use Rattle.transfer.specs.declared.Point.the-variants.{ReadBlocking, WriteBlocking, ReadAsync, WriteAsync}
+use Rattle.transfer_ahead.proofs.Coming.{not-ahead}
 
 enum-known-p : tie.Need-enum-known-p
 enum-known-p c = search needs
@@ -15,14 +14,11 @@ enum-known-p c = search needs
 enum-known-r : tie.Need-enum-known-r
 enum-known-r c = search needs
 
-burst-requires : tie.Need-burst-requires
-burst-requires c κs = search needs
+read-from-requires : tie.Need-read-from-requires
+read-from-requires c κs = (c .before .before .before .before .before .before .p .given .1 ∙ ap ReadBlocking (c .before .before .before .r .given .1), c .before .before .before .before .before .before .before .before .before .before .before .before .pre)
 
 came-requires : tie.Need-came-requires
 came-requires c κs = search needs
-
-came-requires-2 : tie.Need-came-requires-2
-came-requires-2 c κs = search needs
 
 enum-known-p-2 : tie.Need-enum-known-p-2
 enum-known-p-2 c = search needs
@@ -30,14 +26,11 @@ enum-known-p-2 c = search needs
 enum-known-w : tie.Need-enum-known-w
 enum-known-w c = search needs
 
-burst-requires-2 : tie.Need-burst-requires-2
-burst-requires-2 c κs = search needs
+write-from-requires : tie.Need-write-from-requires
+write-from-requires c κs = (c .before .before .before .before .before .p2 .given .1 ∙ ap WriteBlocking (c .before .before .w .given .1), c .before .before .before .before .before .before .before .before .before .before .before .pre)
 
-came-requires-3 : tie.Need-came-requires-3
-came-requires-3 c κs = search needs
-
-came-requires-4 : tie.Need-came-requires-4
-came-requires-4 c κs = search needs
+came-requires-2 : tie.Need-came-requires-2
+came-requires-2 c κs = search needs
 
 enum-known-p-3 : tie.Need-enum-known-p-3
 enum-known-p-3 c = search needs
@@ -45,14 +38,11 @@ enum-known-p-3 c = search needs
 enum-known-q : tie.Need-enum-known-q
 enum-known-q c = search needs
 
-burst-requires-3 : tie.Need-burst-requires-3
-burst-requires-3 c κs = search needs
+rounds-from-requires : tie.Need-rounds-from-requires
+rounds-from-requires c κs = (c .before .before .before .before .before .before .p3 .given .1 ∙ ap ReadAsync (c .before .before .before .q .given .1), c .before .before .before .before .before .before .before .before .before .before .before .before .pre)
 
-came-requires-5 : tie.Need-came-requires-5
-came-requires-5 c κs = search needs
-
-came-requires-6 : tie.Need-came-requires-6
-came-requires-6 c κs = search needs
+came-requires-3 : tie.Need-came-requires-3
+came-requires-3 c κs = search needs
 
 enum-known-p-4 : tie.Need-enum-known-p-4
 enum-known-p-4 c = search needs
@@ -60,17 +50,14 @@ enum-known-p-4 c = search needs
 enum-known-f : tie.Need-enum-known-f
 enum-known-f c = search needs
 
-burst-requires-4 : tie.Need-burst-requires-4
-burst-requires-4 c κs = search needs
+fills-from-requires : tie.Need-fills-from-requires
+fills-from-requires c κs = (c .before .before .before .before .before .p4 .given .1 ∙ ap WriteAsync (c .before .before .f .given .1), c .before .before .before .before .before .before .before .before .before .before .before .pre)
 
-came-requires-7 : tie.Need-came-requires-7
-came-requires-7 c κs = search needs
+came-requires-4 : tie.Need-came-requires-4
+came-requires-4 c κs = search needs
 
-came-requires-8 : tie.Need-came-requires-8
-came-requires-8 c κs = search needs
-
-came-requires-9 : tie.Need-came-requires-9
-came-requires-9 c κs = search needs
+came-requires-5 : tie.Need-came-requires-5
+came-requires-5 c κs = search needs
 
 same-length : tie.Need-same-length
 same-length c = search needs
@@ -79,19 +66,19 @@ same-length-2 : tie.Need-same-length-2
 same-length-2 c = search needs
 
 returns : tie.Need-returns
-returns c = burst-ahead (c .before .before .before .before .before .before .before .before .before .before .before .before .p .given .1 ∙ ap ReadBlocking (c .before .before .before .before .before .before .before .before .before .r .given .1)) (c .came .ensures) (c .before .before .before .before .before .burst .ensures (now (c .before .before .before .before .before .before .before .before .before .before .before .before .before .before .before .before .before .before .args .bytes)))
+returns c = c .before .before .before .before .read-from .ensures (now (c .before .before .before .before .before .before .before .before .before .before .before .before .before .before .before .before .before .args .bytes))
 
 returns-2 : tie.Need-returns-2
-returns-2 c = let e = c .came2 .ensures in not-ahead (e .0 ∙ sym (c .before .before .before .p .given .1), e .1, e .2) (c .before .before .before .before .before .before .before .before .before .pre) (omega (arith, c .before .before .before .before .before .before .before .before .before .good .1 .1 .1 .1 .0))
+returns-2 c = let e = c .came .ensures in not-ahead (e .0 ∙ sym (c .before .before .before .p .given .1), e .1, e .2) (c .before .before .before .before .before .before .before .before .before .pre) (omega (arith, c .before .before .before .before .before .before .before .before .before .good .1 .1 .1 .1 .0))
 
 same-length-3 : tie.Need-same-length-3
 same-length-3 c = search needs
 
 returns-3 : tie.Need-returns-3
-returns-3 c = burst-ahead (c .before .before .before .before .before .before .before .before .before .p2 .given .1 ∙ ap WriteBlocking (c .before .before .before .before .before .before .w .given .1)) (c .came3 .ensures) (c .before .before .before .burst2 .ensures (c .before .before .before .before .before .before .before .before .before .before .before .before .before .before .before .args .t .restart) (now (c .before .before .before .before .before .before .before .before .before .before .before .before .before .before .before .args .buffer)))
+returns-3 c = c .before .before .write-from .ensures (now (c .before .before .before .before .before .before .before .before .before .before .before .before .before .before .args .buffer))
 
 returns-4 : tie.Need-returns-4
-returns-4 c = let e = c .came4 .ensures in not-ahead (e .0 ∙ sym (c .before .before .before .p2 .given .1), e .1, e .2) (c .before .before .before .before .before .before .before .before .before .pre) (omega (arith, c .before .before .before .before .before .before .before .before .before .good .1 .1 .1 .1 .0))
+returns-4 c = let e = c .came2 .ensures in not-ahead (e .0 ∙ sym (c .before .before .before .p2 .given .1), e .1, e .2) (c .before .before .before .before .before .before .before .before .before .pre) (omega (arith, c .before .before .before .before .before .before .before .before .before .good .1 .1 .1 .1 .0))
 
 same-length-4 : tie.Need-same-length-4
 same-length-4 c = search needs
@@ -100,22 +87,22 @@ same-length-5 : tie.Need-same-length-5
 same-length-5 c = search needs
 
 returns-5 : tie.Need-returns-5
-returns-5 c = rounds-ahead (c .before .before .before .before .before .before .before .before .before .before .before .before .p3 .given .1 ∙ ap ReadAsync (c .before .before .before .before .before .before .before .before .before .q .given .1)) (c .came5 .ensures) (c .before .before .before .before .before .burst3 .ensures)
+returns-5 c = c .before .before .before .before .rounds-from .ensures (now (c .before .before .before .before .before .before .before .before .before .before .before .before .before .before .before .before .before .args .bytes))
 
 returns-6 : tie.Need-returns-6
-returns-6 c = let e = c .came6 .ensures in not-ahead (e .0 ∙ sym (c .before .before .before .p3 .given .1), e .1, e .2) (c .before .before .before .before .before .before .before .before .before .pre) (omega (arith, c .before .before .before .before .before .before .before .before .before .good .1 .1 .1 .1 .0))
+returns-6 c = let e = c .came3 .ensures in not-ahead (e .0 ∙ sym (c .before .before .before .p3 .given .1), e .1, e .2) (c .before .before .before .before .before .before .before .before .before .pre) (omega (arith, c .before .before .before .before .before .before .before .before .before .good .1 .1 .1 .1 .0))
 
 same-length-6 : tie.Need-same-length-6
 same-length-6 c = search needs
 
 returns-7 : tie.Need-returns-7
-returns-7 c = burst-ahead (c .before .before .before .before .before .before .before .before .before .p4 .given .1 ∙ ap WriteAsync (c .before .before .before .before .before .before .f .given .1)) (c .came7 .ensures) (c .before .before .before .burst4 .ensures (c .before .before .before .before .before .before .before .before .before .before .before .before .before .before .before .args .t .restart) (now (c .before .before .before .before .before .before .before .before .before .before .before .before .before .before .before .args .buffer)))
+returns-7 c = c .before .before .fills-from .ensures (now (c .before .before .before .before .before .before .before .before .before .before .before .before .before .before .args .buffer))
 
 returns-8 : tie.Need-returns-8
-returns-8 c = let e = c .came8 .ensures in not-ahead (e .0 ∙ sym (c .before .before .before .p4 .given .1), e .1, e .2) (c .before .before .before .before .before .before .before .before .before .pre) (omega (arith, c .before .before .before .before .before .before .before .before .before .good .1 .1 .1 .1 .0))
+returns-8 c = let e = c .came4 .ensures in not-ahead (e .0 ∙ sym (c .before .before .before .p4 .given .1), e .1, e .2) (c .before .before .before .before .before .before .before .before .before .pre) (omega (arith, c .before .before .before .before .before .before .before .before .before .good .1 .1 .1 .1 .0))
 
 returns-9 : tie.Need-returns-9
-returns-9 c = not-ahead (c .came9 .ensures) (c .before .before .before .before .before .before .pre) (omega (arith, c .before .before .before .before .before .before .good .1 .1 .1 .1 .0))
+returns-9 c = not-ahead (c .came5 .ensures) (c .before .before .before .before .before .before .pre) (omega (arith, c .before .before .before .before .before .before .good .1 .1 .1 .1 .0))
 
 pub burst-from-spec : {M : Type 1} → statement M
 burst-from-spec =
@@ -123,25 +110,21 @@ burst-from-spec =
     (tie.spec
     enum-known-p
     enum-known-r
-    burst-requires
+    read-from-requires
     came-requires
-    came-requires-2
     enum-known-p-2
     enum-known-w
-    burst-requires-2
-    came-requires-3
-    came-requires-4
+    write-from-requires
+    came-requires-2
     enum-known-p-3
     enum-known-q
-    burst-requires-3
-    came-requires-5
-    came-requires-6
+    rounds-from-requires
+    came-requires-3
     enum-known-p-4
     enum-known-f
-    burst-requires-4
-    came-requires-7
-    came-requires-8
-    came-requires-9
+    fills-from-requires
+    came-requires-4
+    came-requires-5
     same-length
     same-length-2
     returns
