@@ -4,10 +4,11 @@ use mathlib.Core.List.{List}
 use mathlib.Core.Path.{_≡_, sym, ap, _∙_}
 use lib.ListN.{length}
 use Rattle.slave_state.specs.declared.Pending.the-variants.{None}
-use Rattle.slave_listen.specs.declared.ListenPoint.the-variants.{Status}
-use Rattle.slave_respond.specs.Machine.{response}
+use Rattle.slave_listen.specs.declared.ListenPoint.the-variants.{Status, RawIntrStat}
+use Rattle.slave_respond.specs.Machine.{response, count-of}
 use Rattle.slave_respond.specs.declared.Job.{Job}
 use Rattle.slave_respond.specs.declared.RespondPoint.{RespondPoint}
+use Rattle.slave_respond.specs.declared.RespondPoint.the-variants as Respond
 use Rattle.slave_respond.specs.declared.Response.{Response}
 use Rattle.slave_steps.specs.Machine.{machine, slave}
 use Rattle.slave_steps.specs.declared.Slave.{Slave}
@@ -15,6 +16,7 @@ use Rattle.slave_steps.specs.declared.Point.{Point}
 use Rattle.slave_steps.specs.declared.Point.the-variants.{Listening, Responding}
 use Rattle.runs.proofs.Reach.{stays}
 use Rattle.slave_burst.specs.Bursts.{ForAny, Drains, Responds}
+use Rattle.slave_idle.specs.Idles.{Idles, Awaits}
 use Rattle.slave_ahead.specs.GoesAhead.{GoesAhead, SendsBytes}
 use Rattle.slave_ahead.specs.declared.Ahead.{Ahead}
 
@@ -36,6 +38,18 @@ module _ {readings log : List ℕ} {s : Slave} {used entries : ℕ} {r : Ahead} 
       → Responds (s .length) bytes readings p entries used log p′ e′ u′ log′ → ForAny (λ (buffer : List ℕ). GoesAhead bytes readings log buffer log′ buffer s used entries r)
   respond-ahead {bytes} {job = job} at is own d = λ buffer. record {
     reaches = rw (is .0, is .1, is .2) (rw (at-its-point s at) at (d .reaches (s .state) job buffer (own .counts (s .length)) (own .sends bytes)));
+  }
+
+  -- polls that find nothing
+  pub await-ahead : {log′ : List ℕ} {i e′ u′ : ℕ} → s .point ≡ Listening (RawIntrStat i) → (r .point ≡ Listening (RawIntrStat i)) × (r .used ≡ u′) × (r .entries ≡ e′) → s .state .«pending_byte» ≡ None → i < s .length
+      → Awaits readings entries used log e′ u′ log′ → ForAny (λ (bytes : List ℕ). ForAny (λ (buffer : List ℕ). GoesAhead bytes readings log buffer log′ buffer s used entries r))
+  await-ahead {i = i} at is none more d = λ bytes buffer. record { reaches = rw (is .0, is .1, is .2, at-its-point s at) (rw (at-its-point s at) at (d .reaches bytes (s .state) (s .length) i buffer none more)) }
+
+  pub idle-ahead : {log′ : List ℕ} {job : Job} {i e′ u′ : ℕ} → s .point ≡ Responding (response job (Respond.RawIntrStat i))
+      → (r .point ≡ Responding (response job (Respond.RawIntrStat i))) × (r .used ≡ u′) × (r .entries ≡ e′) → count-of job (s .length) ≤ i
+      → Idles readings entries used log e′ u′ log′ → ForAny (λ (bytes : List ℕ). ForAny (λ (buffer : List ℕ). GoesAhead bytes readings log buffer log′ buffer s used entries r))
+  idle-ahead {job = job} {i = i} at is sent d = λ bytes buffer. record {
+    reaches = rw (is .0, is .1, is .2, at-its-point s at) (rw (at-its-point s at) at (d .reaches bytes (s .state) job (s .length) i buffer sent));
   }
 
 pub responding-at : {x : Point} {r : Response} {p : RespondPoint} → x ≡ Responding r → r .point ≡ p → x ≡ Responding (response (r .job) p)

@@ -12,7 +12,7 @@ ghost use mathlib.Core.Path.{_≡_};
 ghost use Prim.Native.Nat.{ℕ, _/_, _≤_};
 ghost use lib.ListN.{length};
 ghost use Rattle.slave_ahead.specs.GoesAhead.{GoesAhead, SendsBytes};
-ghost use Rattle.slave_respond.specs.Machine.{response};
+ghost use Rattle.slave_respond.specs.Machine.{response, count-of};
 ghost use Rattle.slave_burst.specs.Bursts.{ForAny};
 
 // How far the slave came: its point, the readings used and the entries in the log.
@@ -86,6 +86,54 @@ fn listen_from(
     }
 }
 
+// Polls of `listen` that find nothing.
+fn await_from(
+    s: Slave,
+    i: u16,
+    readings: &[u32],
+    used: usize,
+    log: &mut [u32],
+    entries: usize,
+) -> Ahead
+    requires { ⌜ (s .point ≡ Point.Listening (ListenPoint.RawIntrStat i)) × (entries ≤ length (now log) / 2) ⌝ }
+    ensures { λ r. ⌜ ForAny (λ (bytes : List ℕ). ForAny (λ (buffer : List ℕ). GoesAhead bytes (now (readings .entry)) (now (log .entry)) buffer (now (log .exit)) buffer s used entries r)) ⌝ }
+{
+    let state = s.state;
+    let pending = state.pending_byte;
+    let point = Point::Listening(ListenPoint::RawIntrStat(i));
+    if is_none(pending) {
+        if i < s.length {
+            let c = slave_idle::listen(readings, used, log, entries);
+            return came(point, c.used, c.entries);
+        }
+    }
+    came(point, used, entries)
+}
+
+// Polls of a response whose bytes are all sent.
+fn idle_from(
+    s: Slave,
+    job: Job,
+    at: u16,
+    readings: &[u32],
+    used: usize,
+    log: &mut [u32],
+    entries: usize,
+) -> Ahead
+    requires { ⌜ (s .point ≡ Point.Responding (response job (RespondPoint.RawIntrStat at))) × (count-of job (s .length) ≤ at) × (entries ≤ length (now log) / 2) ⌝ }
+    ensures { λ r. ⌜ ForAny (λ (bytes : List ℕ). ForAny (λ (buffer : List ℕ). GoesAhead bytes (now (readings .entry)) (now (log .entry)) buffer (now (log .exit)) buffer s used entries r)) ⌝ }
+{
+    let c = slave_idle::respond(readings, used, log, entries);
+    came(
+        Point::Responding(Response {
+            job,
+            point: RespondPoint::RawIntrStat(at),
+        }),
+        c.used,
+        c.entries,
+    )
+}
+
 // In a response.
 fn respond_from(
     s: Slave,
@@ -100,6 +148,9 @@ fn respond_from(
     requires { ⌜ (s .point ≡ Point.Responding (response job (RespondPoint.RawIntrStat at))) × (entries ≤ length (now log) / 2) ⌝ }
     ensures { λ r. ⌜ ForAny (λ (buffer : List ℕ). GoesAhead (now (bytes .entry)) (now (readings .entry)) (now (log .entry)) buffer (now (log .exit)) buffer s used entries r) ⌝ }
 {
+    if at >= slave_respond::count(job, s.length) {
+        return idle_from(s, job, at, readings, used, log, entries);
+    }
     if sends_bytes(job) {
         let c = slave_burst::respond::burst(at, s.length, bytes, readings, used, log, entries);
         came(
@@ -147,6 +198,7 @@ pub fn burst_from(
                 entries,
                 buffer,
             ),
+            ListenPoint::RawIntrStat(i) => await_from(s, i, readings, used, log, entries),
             _ => came(p, used, entries),
         },
         Point::Responding(r) => {

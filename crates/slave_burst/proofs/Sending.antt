@@ -51,7 +51,7 @@ module _ (bytes : List ℕ) {readings : List ℕ} (me : SlaveState) (job : Job) 
       rw ends (did-read g refl room left a refl refl)
 
   -- until the next poll
-  waits : Reaches (machine bytes) readings s₀ e₀ u₀ l₀ b₀ (slave me count (Responding (response job (IntrMask i)))) e u l b → e + 2 ≤ length l₀ / 2
+  pub waits : Reaches (machine bytes) readings s₀ e₀ u₀ l₀ b₀ (slave me count (Responding (response job (IntrMask i)))) e u l b → e + 2 ≤ length l₀ / 2
       → Reaches (machine bytes) readings s₀ e₀ u₀ l₀ b₀ (slave me count (Responding (response job (RawIntrStat i)))) (e + 2) u
       (entered (entered l e (0x200 + INTR-MASK) 0xd0) (e + 1) (0x300 + PENDING) 0) b
   waits g room =

@@ -47,7 +47,7 @@ pub struct Response {
 }
 
 // How many bytes a response has: a FIFO of fill bytes at a time.
-fn count(job: Job, length: u16) -> u16
+pub fn count(job: Job, length: u16) -> u16
     ensures { λ r. ⌜ r ≡ count-of job length ⌝ }
 {
     match job {

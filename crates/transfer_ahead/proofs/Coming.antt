@@ -1,8 +1,7 @@
 -- A transfer comes as far as the burst that begins at its point.
-use Prim.Native.Nat.{ℕ, _/_, _<_, _≤_, _^_}
+use Prim.Native.Nat.{ℕ}
 use mathlib.Core.List.{List}
 use mathlib.Core.Path.{_≡_, refl, sym, ap}
-use lib.ListN.{length}
 use Rattle.transfer.specs.Points.{with-point}
 use Rattle.transfer.specs.Machine.{machine}
 use Rattle.transfer.specs.declared.Transfer.{Transfer}
@@ -11,9 +10,9 @@ use Rattle.transfer.specs.declared.Point.the-variants.{ReadAsync}
 use Rattle.transfer.specs.declared.Round.{Round}
 use Rattle.transfer.specs.declared.RoundPoint.the-variants.{Capacity}
 use Rattle.runs.specs.Reaches.{Reaches}
-use Rattle.runs.proofs.Reach.{stays}
 use Rattle.transfer_burst.specs.Bursts.{Bursts}
 use Rattle.transfer_rounds.specs.Rounds.{Rounds}
+use Rattle.transfer_idle.specs.Stays.{Stays}
 use Rattle.transfer_ahead.specs.GoesAhead.{GoesAhead}
 use Rattle.transfer_ahead.specs.declared.Ahead.{Ahead}
 
@@ -21,9 +20,9 @@ at-its-point : (t : Transfer) {p : Point} → t .point ≡ p → with-point t p 
 at-its-point t e = ap (with-point t) (sym e)
 
 module _ {bytes readings log buffer : List ℕ} {t : Transfer} {used entries : ℕ} {r : Ahead} where
-  pub not-ahead : (r .point ≡ t .point) × (r .used ≡ used) × (r .entries ≡ entries) → entries ≤ length log / 2 → length log < 2 ^ 64
-      → GoesAhead bytes readings log buffer log buffer t used entries r
-  not-ahead is room fits = record { reaches = λ kinds lengths. rw (is .0, is .1, is .2) (stays (machine kinds lengths bytes) readings room fits) }
+  pub idle-ahead : {log′ : List ℕ} {p : Point} {e′ u′ : ℕ} → t .point ≡ p → (r .point ≡ p) × (r .used ≡ u′) × (r .entries ≡ e′) → Stays p readings entries used log e′ u′ log′
+      → GoesAhead bytes readings log buffer log′ buffer t used entries r
+  idle-ahead at is s = record { reaches = λ kinds lengths. rw (is .0, is .1, is .2, at-its-point t at) (rw (at-its-point t at) at (s .reaches kinds lengths bytes t buffer)) }
 
   module _ {log′ buffer′ : List ℕ} {p p′ : Point} {e′ u′ : ℕ} (at : t .point ≡ p) (is : (r .point ≡ p′) × (r .used ≡ u′) × (r .entries ≡ e′)) where
     came : ((kinds lengths : List ℕ) → Reaches (machine kinds lengths bytes) readings (with-point t p) entries used log buffer (with-point t p′) e′ u′ log′ buffer′)

@@ -160,6 +160,22 @@ fn fills_from(
     )
 }
 
+// At a point where no burst begins: polls that find nothing.
+fn idle_from(
+    t: Transfer,
+    p: Point,
+    readings: &[u32],
+    used: usize,
+    log: &mut [u32],
+    entries: usize,
+) -> Ahead
+    requires { ⌜ (t .point ≡ p) × (entries ≤ length (now log) / 2) ⌝ }
+    ensures { λ r. ⌜ ForAny (λ (bytes : List ℕ). ForAny (λ (buffer : List ℕ). GoesAhead bytes (now (readings .entry)) (now (log .entry)) buffer (now (log .exit)) buffer t used entries r)) ⌝ }
+{
+    let c = transfer_idle::polls(p, readings, used, log, entries);
+    came(p, c.used, c.entries)
+}
+
 pub fn burst_from(
     t: Transfer,
     bytes: &[u8],
@@ -176,11 +192,11 @@ pub fn burst_from(
     match p {
         Point::ReadBlocking(r) => match r {
             ReadPoint::Room(i) => read_from(t, i, readings, used, log, entries, buffer),
-            _ => came(p, used, entries),
+            _ => idle_from(t, p, readings, used, log, entries),
         },
         Point::WriteBlocking(w) => match w {
             WritePoint::Send(i) => write_from(t, i, bytes, readings, used, log, entries),
-            _ => came(p, used, entries),
+            _ => idle_from(t, p, readings, used, log, entries),
         },
         Point::ReadAsync(q) => match q {
             RoundPoint::Capacity(round) => rounds_from(
@@ -192,12 +208,12 @@ pub fn burst_from(
                 entries,
                 buffer,
             ),
-            _ => came(p, used, entries),
+            _ => idle_from(t, p, readings, used, log, entries),
         },
         Point::WriteAsync(f) => match f {
             FillPoint::Free(i) => fills_from(t, i, bytes, readings, used, log, entries),
-            _ => came(p, used, entries),
+            _ => idle_from(t, p, readings, used, log, entries),
         },
-        _ => came(p, used, entries),
+        _ => idle_from(t, p, readings, used, log, entries),
     }
 }

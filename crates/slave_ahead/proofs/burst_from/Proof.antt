@@ -17,6 +17,12 @@ enum-known-l c = search needs
 listen-from-requires : tie.Need-listen-from-requires
 listen-from-requires c κs = (c .before .before .before .before .before .before .p .given .1 ∙ ap Listening (c .before .before .before .l .given .1), c .before .before .before .before .before .before .before .before .before .before .before .before .pre)
 
+enum-known-l-2 : tie.Need-enum-known-l-2
+enum-known-l-2 c = search needs
+
+await-from-requires : tie.Need-await-from-requires
+await-from-requires c κs = (c .before .before .before .before .before .p .given .1 ∙ ap Listening (c .before .before .l2 .given .1), c .before .before .before .before .before .before .before .before .before .before .before .pre)
+
 came-requires : tie.Need-came-requires
 came-requires c κs = search needs
 
@@ -44,20 +50,26 @@ same-length-2 c = search needs
 returns : tie.Need-returns
 returns c = c .before .before .before .before .listen-from .ensures (now (c .before .before .before .before .before .before .before .before .before .before .before .before .before .before .before .before .before .args .bytes))
 
-returns-2 : tie.Need-returns-2
-returns-2 c = not-ahead (c .before .before .before .p .given .1) (c .came .ensures) (c .before .before .before .before .before .before .before .before .before .pre) (omega (arith, c .before .before .before .before .before .before .before .before .before .good .1 .1 .1 .1 .0)) _ _
-
 same-length-3 : tie.Need-same-length-3
 same-length-3 c = search needs
 
+returns-2 : tie.Need-returns-2
+returns-2 c = c .before .before .await-from .ensures (now (c .before .before .before .before .before .before .before .before .before .before .before .before .before .before .args .bytes)) (now (c .before .before .before .before .before .before .before .before .before .before .before .before .before .before .args .buffer))
+
 returns-3 : tie.Need-returns-3
-returns-3 c = c .before .before .respond-from .ensures (now (c .before .before .before .before .before .before .before .before .before .before .before .before .before .before .args .buffer))
+returns-3 c = not-ahead (c .before .before .before .p .given .1) (c .came .ensures) (c .before .before .before .before .before .before .before .before .before .pre) (omega (arith, c .before .before .before .before .before .before .before .before .before .good .1 .1 .1 .1 .0)) _ _
+
+same-length-4 : tie.Need-same-length-4
+same-length-4 c = search needs
 
 returns-4 : tie.Need-returns-4
-returns-4 c = not-ahead (c .before .before .before .p2 .given .1) (c .came2 .ensures) (c .before .before .before .before .before .before .before .before .before .pre) (omega (arith, c .before .before .before .before .before .before .before .before .before .good .1 .1 .1 .1 .0)) _ _
+returns-4 c = c .before .before .respond-from .ensures (now (c .before .before .before .before .before .before .before .before .before .before .before .before .before .before .args .buffer))
 
 returns-5 : tie.Need-returns-5
-returns-5 c = not-ahead (refl) (c .came3 .ensures) (c .before .before .before .before .before .before .pre) (omega (arith, c .before .before .before .before .before .before .good .1 .1 .1 .1 .0)) _ _
+returns-5 c = not-ahead (c .before .before .before .p2 .given .1) (c .came2 .ensures) (c .before .before .before .before .before .before .before .before .before .pre) (omega (arith, c .before .before .before .before .before .before .before .before .before .good .1 .1 .1 .1 .0)) _ _
+
+returns-6 : tie.Need-returns-6
+returns-6 c = not-ahead refl (c .came3 .ensures) (c .before .before .before .before .before .before .pre) (omega (arith, c .before .before .before .before .before .before .good .1 .1 .1 .1 .0)) _ _
 
 pub burst-from-spec : {M : Type 1} → statement M
 burst-from-spec =
@@ -66,6 +78,8 @@ burst-from-spec =
     enum-known-p
     enum-known-l
     listen-from-requires
+    enum-known-l-2
+    await-from-requires
     came-requires
     enum-known-p-2
     enum-known-point
@@ -75,8 +89,10 @@ burst-from-spec =
     same-length
     same-length-2
     returns
-    returns-2
     same-length-3
+    returns-2
     returns-3
+    same-length-4
     returns-4
-    returns-5)
+    returns-5
+    returns-6)

@@ -1,0 +1,71 @@
+-- `transfer_idle::before_source` meets its contract.
+use borrow.Author.Needs.{needs}
+use Rattle.transfer_idle.proofs.before_source.Statement.{statement}
+use Rattle.transfer_idle.proofs.before_source.Tie as tie
+use native.Mathlib.Omega.{arith}
+use mathlib.Core.Path.{ap, _∙_}
+use Rattle.transfer.specs.declared.Point.the-variants.{Abort}
+use Rattle.transfer.specs.declared.AbortPoint.the-variants.{Source}
+use Rattle.transfer.specs.declared.Caller.the-variants.{Stop}
+use Rattle.transfer_idle.proofs.Still.{still, at}
+
+enum-told : tie.Need-enum-told
+enum-told c = search needs
+
+space-requires : tie.Need-space-requires
+space-requires c κs = search needs
+
+enum-known-caller : tie.Need-enum-known-caller
+enum-known-caller c = search needs
+
+enum-told-2 : tie.Need-enum-told-2
+enum-told-2 c = search needs
+
+stop-requires : tie.Need-stop-requires
+stop-requires c κs = search needs
+
+enum-told-3 : tie.Need-enum-told-3
+enum-told-3 c = search needs
+
+none-requires : tie.Need-none-requires
+none-requires c κs = search needs
+
+none-requires-2 : tie.Need-none-requires-2
+none-requires-2 c κs = search needs
+
+same-length : tie.Need-same-length
+same-length c = search needs
+
+returns : tie.Need-returns
+returns c = at (ap (Abort Source) (c .before .before .before .before .enum-told .given .1)) (c .before .before .space .ensures _)
+
+same-length-2 : tie.Need-same-length-2
+same-length-2 c = search needs
+
+returns-2 : tie.Need-returns-2
+returns-2 c = at (ap (Abort Source) (c .before .before .before .before .before .before .before .caller .given .1 ∙ ap Stop (c .before .before .before .before .enum-told2 .given .1))) (c .before .before .stop .ensures)
+
+returns-3 : tie.Need-returns-3
+returns-3 c = still (c .none .ensures) (c .before .before .before .before .before .before .before .before .pre) (search needs)
+
+returns-4 : tie.Need-returns-4
+returns-4 c = still (c .none2 .ensures) (c .before .before .before .before .pre) (search needs)
+
+pub before-source-spec : {M : Type 1} → statement M
+before-source-spec =
+    tie.close
+    (tie.spec
+    enum-told
+    space-requires
+    enum-known-caller
+    enum-told-2
+    stop-requires
+    enum-told-3
+    none-requires
+    none-requires-2
+    same-length
+    returns
+    same-length-2
+    returns-2
+    returns-3
+    returns-4)

@@ -1,0 +1,149 @@
+-- `transfer_idle::wait::space` meets its contract.
+use Rattle.transfer_idle.proofs.wait.space.Statement.{statement}
+use Rattle.transfer_idle.proofs.wait.space.Tie as tie
+use native.Mathlib.Omega.{arith}
+use mathlib.Core.Path.{sym, _∙_}
+use Rattle.runs.proofs.Turns.{no-poll}
+use Rattle.transfer_idle.proofs.Waiting.{SpaceWaiting, space-none, space-next}
+use borrow.Author.Needs.{needs}
+
+abbrev Inv-loop : tie.InvT-loop
+Inv-loop readings used log₀ entries n₀ u₀ k₀ log n u k = SpaceWaiting readings used log₀ entries log n u k
+
+abbrev μ-loop : tie.MeasureT-loop
+μ-loop readings used log₀ entries n₀ u₀ k₀ log n u k = n
+
+returns : tie.Need-returns Inv-loop μ-loop
+returns c = space-none (c .before .before .before .pre) (search needs)
+
+sub-least : tie.Need-sub-least Inv-loop μ-loop
+sub-least c = omega (arith, c .before .before .before .pre)
+
+sub-least-2 : tie.Need-sub-least-2 Inv-loop μ-loop
+sub-least-2 c = omega (arith, c .if1)
+
+least-requires : tie.Need-least-requires Inv-loop μ-loop
+least-requires c κs = search needs
+
+loop-holds : tie.Need-loop-holds Inv-loop μ-loop
+loop-holds c = no-poll (space-none (c .before .before .before .before .pre) (search needs)) (omega (arith, c .before .before .before .before .pre, c .least .ensures .0)) (omega (arith, c .before .if1, c .least .ensures .1)) (search needs) (search needs)
+
+mul-first : tie.Need-mul-first Inv-loop μ-loop
+mul-first c = search needs
+
+shared-slice-read-first : tie.Need-shared-slice-read-first Inv-loop μ-loop
+shared-slice-read-first c = omega (arith, c .before .before .loop .inv .left, c .before .loop-test .taken)
+
+add-second : tie.Need-add-second Inv-loop μ-loop
+add-second c = omega (arith, c .before .before .loop .inv .left, c .before .before .loop .inv .fits .1, c .before .loop-test .taken)
+
+mul-second : tie.Need-mul-second Inv-loop μ-loop
+mul-second c = search needs
+
+shared-slice-read-second : tie.Need-shared-slice-read-second Inv-loop μ-loop
+shared-slice-read-second c = omega (arith, c .before .before .before .loop .inv .left, c .before .before .loop-test .taken)
+
+is-full-requires : tie.Need-is-full-requires Inv-loop μ-loop
+is-full-requires c κs = search needs
+
+add-mask : tie.Need-add-mask Inv-loop μ-loop
+add-mask c = omega (arith, c .before .before .before .before .before .loop .inv .left, c .before .before .before .before .before .loop .inv .fits .1, c .before .before .before .before .loop-test .taken)
+
+mul-mask : tie.Need-mul-mask Inv-loop μ-loop
+mul-mask c = search needs
+
+shared-slice-read-mask : tie.Need-shared-slice-read-mask Inv-loop μ-loop
+shared-slice-read-mask c = omega (arith, c .before .before .before .before .before .before .loop .inv .left, c .before .before .before .before .before .loop-test .taken)
+
+put-read-requires : tie.Need-put-read-requires Inv-loop μ-loop
+put-read-requires c κs = omega (arith, c .before .before .before .before .before .before .before .loop .inv .room, c .before .before .before .before .before .before .before .loop .inv .long, c .before .before .before .before .before .before .loop-test .taken)
+
+add-put-read : tie.Need-add-put-read Inv-loop μ-loop
+add-put-read c = omega (arith, c .before .before .before .before .before .before .before .before .before .before .before .loop .inv .room, c .before .before .before .before .before .before .before .before .before .before .before .loop .inv .fits .0, c .before .before .before .before .before .before .before .before .before .before .loop-test .taken)
+
+put-read-requires-2 : tie.Need-put-read-requires-2 Inv-loop μ-loop
+put-read-requires-2 c κs = omega (arith, c .before .before .before .before .before .before .before .before .before .before .before .loop .inv .room, c .before .before .before .before .before .before .before .before .before .before .before .loop .inv .long, c .before .before .before .before .before .before .before .before .before .before .loop-test .taken, c .before .before .before .put-read .kept .0)
+
+add-put-write : tie.Need-add-put-write Inv-loop μ-loop
+add-put-write c = omega (arith, c .before .before .before .before .before .before .before .before .before .before .before .before .before .before .before .loop .inv .room, c .before .before .before .before .before .before .before .before .before .before .before .before .before .before .before .loop .inv .fits .0, c .before .before .before .before .before .before .before .before .before .before .before .before .before .before .loop-test .taken)
+
+put-write-requires : tie.Need-put-write-requires Inv-loop μ-loop
+put-write-requires c κs = omega (arith, c .before .before .before .before .before .before .before .before .before .before .before .before .before .before .before .loop .inv .room, c .before .before .before .before .before .before .before .before .before .before .before .before .before .before .before .loop .inv .long, c .before .before .before .before .before .before .before .before .before .before .before .before .before .before .loop-test .taken, c .before .before .before .before .before .before .before .put-read .kept .0, c .before .before .before .put-read2 .kept .0)
+
+add-put-wait : tie.Need-add-put-wait Inv-loop μ-loop
+add-put-wait c = omega (arith, c .before .before .before .before .before .before .before .before .before .before .before .before .before .before .before .before .before .before .before .loop .inv .room, c .before .before .before .before .before .before .before .before .before .before .before .before .before .before .before .before .before .before .before .loop .inv .fits .0, c .before .before .before .before .before .before .before .before .before .before .before .before .before .before .before .before .before .before .loop-test .taken)
+
+with-m-tx-empty-requires : tie.Need-with-m-tx-empty-requires Inv-loop μ-loop
+with-m-tx-empty-requires c κs = search needs
+
+with-m-tx-abrt-requires : tie.Need-with-m-tx-abrt-requires Inv-loop μ-loop
+with-m-tx-abrt-requires c κs = search needs
+
+put-wait-requires : tie.Need-put-wait-requires Inv-loop μ-loop
+put-wait-requires c κs = omega (arith, c .before .before .before .before .before .before .before .before .before .before .before .before .before .before .before .before .before .before .before .before .before .loop .inv .room, c .before .before .before .before .before .before .before .before .before .before .before .before .before .before .before .before .before .before .before .before .before .loop .inv .long, c .before .before .before .before .before .before .before .before .before .before .before .before .before .before .before .before .before .before .before .before .loop-test .taken, c .before .before .before .before .before .before .before .before .before .before .before .before .before .put-read .kept .0, c .before .before .before .before .before .before .before .before .before .put-read2 .kept .0, c .before .before .before .before .before .put-write .kept .0)
+
+add-u : tie.Need-add-u Inv-loop μ-loop
+add-u c = omega (arith, c .before .before .before .before .before .before .before .before .before .before .before .before .before .before .before .before .before .before .before .before .before .before .before .before .loop .inv .left, c .before .before .before .before .before .before .before .before .before .before .before .before .before .before .before .before .before .before .before .before .before .before .before .before .loop .inv .fits .1, c .before .before .before .before .before .before .before .before .before .before .before .before .before .before .before .before .before .before .before .before .before .before .before .loop-test .taken)
+
+add-k : tie.Need-add-k Inv-loop μ-loop
+add-k c = omega (arith, c .before .before .before .before .before .before .before .before .before .before .before .before .before .before .before .before .before .before .before .before .before .before .before .before .loop .inv .room, c .before .before .before .before .before .before .before .before .before .before .before .before .before .before .before .before .before .before .before .before .before .before .before .before .loop .inv .fits .0, c .before .before .before .before .before .before .before .before .before .before .before .before .before .before .before .before .before .before .before .before .before .before .before .loop-test .taken)
+
+sub-n : tie.Need-sub-n Inv-loop μ-loop
+sub-n c = search needs
+
+loop-less : tie.Need-loop-less Inv-loop μ-loop
+loop-less c = omega (arith, c .before .before .before .before .before .before .before .before .before .before .before .before .before .before .before .before .before .before .before .before .before .before .before .loop-test .taken)
+
+loop-again : tie.Need-loop-again Inv-loop μ-loop
+loop-again c = space-next (c .before .before .before .before .before .before .before .before .before .before .before .before .before .before .before .before .before .before .before .before .before .before .before .before .loop .inv) (c .before .before .before .before .before .before .before .before .before .before .before .before .before .before .before .before .before .before .before .before .before .before .before .loop-test .taken) (sym (c .before .before .before .before .before .before .before .before .before .before .before .before .before .before .before .before .before .before .before .before .is-full .ensures) ∙ c .before .before .before .before .before .before .before .before .before .before .before .before .before .before .before .before .before .before .before .if2 .taken) (c .before .before .before .before .before .before .before .before .before .before .before .before .before .before .before .before .put-read .ensures) (c .before .before .before .before .before .before .before .before .before .before .before .before .put-read2 .ensures) (c .before .before .before .before .before .before .before .before .put-write .ensures) (rw (c .before .before .before .before .with-m-tx-empty .ensures) at (c .before .before .before .with-m-tx-abrt .ensures)) (c .before .before .put-wait .ensures)
+
+same-length : tie.Need-same-length Inv-loop μ-loop
+same-length c = c .before .loop .inv .long
+
+returns-2 : tie.Need-returns-2 Inv-loop μ-loop
+returns-2 c = c .before .loop .inv .came
+
+same-length-2 : tie.Need-same-length-2 Inv-loop μ-loop
+same-length-2 c = c .before .before .before .before .before .loop .inv .long
+
+returns-3 : tie.Need-returns-3 Inv-loop μ-loop
+returns-3 c = c .before .before .before .before .before .loop .inv .came
+
+pub space-spec : {M : Type 1} → statement M
+space-spec =
+    tie.close
+    (tie.spec
+    Inv-loop
+    μ-loop
+    returns
+    sub-least
+    sub-least-2
+    least-requires
+    loop-holds
+    mul-first
+    shared-slice-read-first
+    add-second
+    mul-second
+    shared-slice-read-second
+    is-full-requires
+    add-mask
+    mul-mask
+    shared-slice-read-mask
+    put-read-requires
+    add-put-read
+    put-read-requires-2
+    add-put-write
+    put-write-requires
+    add-put-wait
+    with-m-tx-empty-requires
+    with-m-tx-abrt-requires
+    put-wait-requires
+    add-u
+    add-k
+    sub-n
+    loop-less
+    loop-again
+    same-length
+    returns-2
+    same-length-2
+    returns-3)
