@@ -30,7 +30,7 @@ count-requires : tie.Need-count-requires Inv-loop μ-loop
 count-requires c κs = search needs
 
 take-requires-2 : tie.Need-take-requires-2 Inv-loop μ-loop
-take-requires-2 c κs = (search needs, c .before .before .count .ensures .0 .0, c .before .before .before .before .before .before .before .before .before .loop .inv .0 .took .fits)
+take-requires-2 c κs = (search needs, c .before .before .count .ensures .0 .0, omega (arith, c .before .before .before .before .before .before .before .before .before .loop .inv .0 .took .fits))
 
 reads-left-requires-2 : tie.Need-reads-left-requires-2 Inv-loop μ-loop
 reads-left-requires-2 c κs = search needs
