@@ -3,3 +3,4 @@ pub mod Taking
 pub mod Joined
 pub mod Reading
 pub mod Lines
+pub mod EveryLine

@@ -47,9 +47,10 @@ pub record Took (bytes : List ℕ) (held : ℕ) (line₀ chunk line : List ℕ) 
   pub order : r .at ≤ r .filled
   pub inside : r .filled ≤ length chunk
 
--- with the bytes that came behind the unread ones: the line has those up to LF, cut at its end, and those behind it are left
+-- with the bytes that came behind the unread ones, none behind the end of the input: the line has those up to LF, cut at its end, and those behind it are left
 pub record HandedOut (from : Source) (chunk₀ chunk line : List ℕ) (r : Line) : Type 0 where
   pub came : List ℕ
+  pub none : from .ended ≡ true → came ≡ []
   pub text : take (r .held) line ≡ take (length line) (before-lf (unread from chunk₀ ++ came))
   pub rest : unread (r .source) chunk ≡ after-lf (unread from chunk₀ ++ came)
   pub ended : r .source .ended ≡ not (has-lf (unread from chunk₀ ++ came))

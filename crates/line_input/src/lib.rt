@@ -77,7 +77,7 @@ fn take(chunk: &[u8], at: usize, filled: usize, held: usize, line: &mut [u8]) ->
 // How many reads may follow: none behind the end of the line or of the input. A proved loop ends, so it counts them down from a number that no run uses up.
 fn reads_left(turns: u64, ended: bool, last: bool) -> u64
     requires { ⌜ 0 < turns ⌝ }
-    ensures { λ r. ⌜ (r < turns) × (0 < r → ended ≡ false) ⌝ }
+    ensures { λ r. ⌜ (r < turns) × (0 < r → (ended ≡ false) × (last ≡ false)) ⌝ }
 {
     if ended {
         return 0;

@@ -9,7 +9,7 @@ use Rattle.line_input.specs.Handed.{unread}
 use Rattle.line_input.proofs.Reading.{Reading, reading-none, reading-more, handed}
 
 abbrev Inv-loop : tie.InvT-loop
-Inv-loop from chunk₀ line₀ part₀ turns₀ chunk line part turns = Reading (unread from chunk₀) chunk line part turns × (length chunk ≡ length chunk₀) × (length line ≡ length line₀)
+Inv-loop from chunk₀ line₀ part₀ turns₀ chunk line part turns = Reading (from .ended) (unread from chunk₀) chunk line part turns × (length chunk ≡ length chunk₀) × (length line ≡ length line₀)
 
 abbrev μ-loop : tie.MeasureT-loop
 μ-loop from chunk₀ line₀ part₀ turns₀ chunk line part turns = turns
@@ -39,7 +39,7 @@ loop-less : tie.Need-loop-less Inv-loop μ-loop
 loop-less c = search needs
 
 loop-again : tie.Need-loop-again Inv-loop μ-loop
-loop-again c = (reading-more (c .before .before .before .before .before .before .before .before .before .before .before .before .before .loop .inv .0) (c .before .before .before .before .before .before .before .before .before .before .before .before .loop-test .taken) (c .before .before .before .take2 .kept .1 .1 .1 .1 .0) (c .before .before .before .take2 .ensures) (c .reads-left2 .ensures .1), c .before .before .before .before .before .before .before .before .before .before .read .kept .1 .0 ∙ c .before .before .before .before .before .before .before .before .before .before .before .before .before .loop .inv .1, c .before .before .before .take2 .kept .1 .1 .1 .1 .0 ∙ c .before .before .before .before .before .before .before .before .before .before .before .before .before .loop .inv .2)
+loop-again c = (reading-more (c .before .before .before .before .before .before .before .before .before .before .before .before .before .loop .inv .0) (c .before .before .before .before .before .before .before .before .before .before .before .before .loop-test .taken) (c .before .before .before .take2 .kept .1 .1 .1 .1 .0) (c .before .before .before .take2 .ensures) (λ l. c .reads-left2 .ensures .1 l .0), c .before .before .before .before .before .before .before .before .before .before .read .kept .1 .0 ∙ c .before .before .before .before .before .before .before .before .before .before .before .before .before .loop .inv .1, c .before .before .before .take2 .kept .1 .1 .1 .1 .0 ∙ c .before .before .before .before .before .before .before .before .before .before .before .before .before .loop .inv .2)
 
 is-some-requires : tie.Need-is-some-requires Inv-loop μ-loop
 is-some-requires c κs = search needs

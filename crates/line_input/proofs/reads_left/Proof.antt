@@ -8,7 +8,7 @@ returns : tie.Need-returns
 returns c = (search needs, λ h. absurd (omega arith))
 
 returns-2 : tie.Need-returns-2
-returns-2 c = search needs
+returns-2 c = (search needs, λ h. absurd (omega arith))
 
 sub-result : tie.Need-sub-result
 sub-result c = search needs
