@@ -74,7 +74,7 @@ fn take(chunk: &[u8], at: usize, filled: usize, held: usize, line: &mut [u8]) ->
     }
 }
 
-// How many reads may follow: none behind the end of the line or of the input. A proved loop ends, so it counts them down from a number that no run uses up.
+// How many reads may follow: none where the line has ended, or the last read met the end of the input. A proved loop ends, so it counts them down from a number that no run uses up.
 fn reads_left(turns: u64, ended: bool, last: bool) -> u64
     requires { ⌜ 0 < turns ⌝ }
     ensures { λ r. ⌜ (r < turns) × (0 < r → (ended ≡ false) × (last ≡ false)) ⌝ }
@@ -88,6 +88,7 @@ fn reads_left(turns: u64, ended: bool, last: bool) -> u64
     turns - 1
 }
 
+// Whether there is a line: one that LF ended, or a last one with any bytes.
 fn is_some(ended: bool, held: usize) -> bool
     ensures { λ r. ⌜ r ≡ (ended || ltb 0 held) ⌝ }
 {
@@ -97,6 +98,7 @@ fn is_some(ended: bool, held: usize) -> bool
     held > 0
 }
 
+// The number of lines with this one.
 fn count_on(lines: u64, some: bool) -> u64
     ensures { λ r. ⌜ r ≡ counted lines some ⌝ }
 {
