@@ -1,5 +1,6 @@
 -- Which answer frame a line is (document 01, "Frames").
 use Prim.Native.Nat.{ℕ}
+use mathlib.Core.Bool.{Bool, true, false}
 use mathlib.Core.List.{List}
 use lib.Dec.{eqb, ltb}
 use lib.ListN.{length}
@@ -38,3 +39,22 @@ of-kind line (Is kind) = frame-of-kind line kind
 
 unfoldable pub frame-of : List ℕ → Frame
 frame-of line = if ltb (length line) 2 then Unknown else of-kind line (number-at line 0 2)
+
+-- with an answer its call ends
+abbrev pub is-answer : Frame → Bool
+is-answer (Answer n d) = true
+is-answer (Read offset w) = false
+is-answer (Write offset w) = false
+is-answer Pending = false
+is-answer BlockReset = false
+is-answer Buffer = false
+is-answer Unknown = false
+
+abbrev pub is-unknown : Frame → Bool
+is-unknown Unknown = true
+is-unknown (Read offset w) = false
+is-unknown (Write offset w) = false
+is-unknown Pending = false
+is-unknown BlockReset = false
+is-unknown Buffer = false
+is-unknown (Answer n d) = false

@@ -5,7 +5,7 @@ use frames_text::digits::number;
 ghost use mathlib.Core.Path.{_≡_};
 ghost use lib.ListN.{length};
 ghost use Rattle.frames_text.specs.Text.{number-at};
-ghost use Rattle.explain_text.specs.Frames.{mark-frame, word-frame, word-of, frame-of-kind, frame-of};
+ghost use Rattle.explain_text.specs.Frames.{mark-frame, word-frame, word-of, frame-of-kind, frame-of, is-answer, is-unknown};
 
 // An answer frame: a read and a write with offset and value, the two marks, a buffer, an answer's number and detail; or no frame.
 pub enum Frame {
@@ -88,5 +88,34 @@ pub fn frame_in(line: &[u8]) -> Frame
     match number(line, 0, 2) {
         Value::No => Frame::Unknown,
         Value::Is(kind) => of_kind(line, kind),
+    }
+}
+
+// With an answer its call ends.
+pub fn is_answer(f: Frame) -> bool
+    ensures { λ r. ⌜ r ≡ is-answer f ⌝ }
+{
+    match f {
+        Frame::Read(_, _) => false,
+        Frame::Write(_, _) => false,
+        Frame::Pending => false,
+        Frame::BlockReset => false,
+        Frame::Buffer => false,
+        Frame::Answer(_, _) => true,
+        Frame::Unknown => false,
+    }
+}
+
+pub fn is_unknown(f: Frame) -> bool
+    ensures { λ r. ⌜ r ≡ is-unknown f ⌝ }
+{
+    match f {
+        Frame::Read(_, _) => false,
+        Frame::Write(_, _) => false,
+        Frame::Pending => false,
+        Frame::BlockReset => false,
+        Frame::Buffer => false,
+        Frame::Answer(_, _) => false,
+        Frame::Unknown => true,
     }
 }

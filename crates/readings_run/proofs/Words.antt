@@ -12,7 +12,8 @@ use Rattle.frames_text.specs.Text.{digit-of, number-at}
 use Rattle.frames_text.specs.declared.digits.Value.the-variants.{Is}
 use Rattle.frames_text.proofs.Numbers.{one-more}
 use Rattle.frames_text.proofs.Tables.{every, at}
-use Rattle.readings_run.specs.Run.{marked, DigitValues}
+use Rattle.readings_run.specs.Run.{marked, DigitValues, PairAt}
+use Rattle.readings_run.specs.declared.Pair.{Pair}
 
 pub digit-values : (xs : List ℕ) → length xs ≡ 256 → every marked 0 xs ≡ true → DigitValues xs
 digit-values xs z t = record { size = z; value = λ c h. at marked xs t c (omega arith) }
@@ -38,23 +39,32 @@ marked-most c = go (ltb (digit-of c) 16) refl
     go true f = let l = ltb-true (digit-of c) 16 f in omega arith
     go false f = omega arith
 
-module _ (chunk : List ℕ) (i a b c d e f g h : ℕ)
-    (pa : a ≡ marked (getD chunk i 0)) (pb : b ≡ marked (getD chunk (i + 1) 0)) (pc : c ≡ marked (getD chunk (i + 2) 0)) (pd : d ≡ marked (getD chunk (i + 3) 0))
-    (pe : e ≡ marked (getD chunk (i + 4) 0)) (pf : f ≡ marked (getD chunk (i + 5) 0)) (pg : g ≡ marked (getD chunk (i + 6) 0)) (ph : h ≡ marked (getD chunk (i + 7) 0))
-    (less : a + b + c + d + (e + f + g + h) < 128) where
+module _ {chunk : List ℕ} {at : ℕ} {r : Pair} (p : PairAt chunk at r) (less : r .sum < 128) where
+  high : Digit (getD chunk at 0) (marked (getD chunk at 0))
+  high = is-digit _ refl (omega (arith, p .sum))
+
+  low : Digit (getD chunk (at + 1) 0) (marked (getD chunk (at + 1) 0))
+  low = is-digit _ refl (omega (arith, p .sum))
+
+  pair-below : r .value < 256
+  pair-below = omega (arith, p .value, high .below, low .below)
+
+-- two digits more behind k
+two : (chunk : List ℕ) (i k v : ℕ) (r : Pair) → number-at chunk i k ≡ Is v → PairAt chunk (i + k) r → r .sum < 128 → number-at chunk i (k + 2) ≡ Is (v * 256 + r .value)
+two chunk i k v r so-far p l =
+    let e : k + 1 + 1 ≡ k + 2 = omega arith in
+    let f : i + (k + 1) ≡ i + k + 1 = omega arith in
+    let one = one-more chunk i k v _ so-far (high p l .same) (high p l .below) in
+    (rw e at (one-more chunk i (k + 1) _ _ one (rw f (low p l .same)) (low p l .below))) ∙ ap Is (omega (arith, p .value))
+
+module _ (chunk : List ℕ) (i : ℕ) {a b c d : Pair} (pa : PairAt chunk i a) (pb : PairAt chunk (i + 2) b) (pc : PairAt chunk (i + 4) c) (pd : PairAt chunk (i + 6) d)
+    (less : a .sum + b .sum + (c .sum + d .sum) < 128) where
   -- so that what they write fits a word
-  pub eight-below : ((a * 16 + b) * 256 + (c * 16 + d)) * 65536 + ((e * 16 + f) * 256 + (g * 16 + h)) < 4294967296
-  eight-below =
-      omega (arith, is-digit _ pa (omega arith) .below, is-digit _ pb (omega arith) .below, is-digit _ pc (omega arith) .below, is-digit _ pd (omega arith) .below, is-digit _ pe (omega arith) .below, is-digit _ pf (omega arith) .below, is-digit _ pg (omega arith) .below, is-digit _ ph (omega arith) .below)
+  pub eight-below : (a .value * 256 + b .value) * 65536 + (c .value * 256 + d .value) < 4294967296
+  eight-below = omega (arith, pair-below pa (omega arith), pair-below pb (omega arith), pair-below pc (omega arith), pair-below pd (omega arith))
 
-  step : (k v : ℕ) {t : ℕ} → number-at chunk i k ≡ Is v → t ≡ marked (getD chunk (i + k) 0) → t < 128 → number-at chunk i (k + 1) ≡ Is (v * 16 + t)
-  step k v {t} so-far p l = let q = is-digit _ p l in one-more chunk i k v t so-far (q .same) (q .below)
-
-  first : number-at chunk i 1 ≡ Is (0 * 16 + a)
+  pub eight : number-at chunk i 8 ≡ Is ((a .value * 256 + b .value) * 65536 + (c .value * 256 + d .value))
   unfolding number-at
-  first = let z : i + 0 ≡ i = omega arith in step 0 0 refl (rw z pa) (omega arith)
-
-  pub eight : number-at chunk i 8 ≡ Is (((a * 16 + b) * 256 + (c * 16 + d)) * 65536 + ((e * 16 + f) * 256 + (g * 16 + h)))
   eight =
-      step 7 _ (step 6 _ (step 5 _ (step 4 _ (step 3 _ (step 2 _ (step 1 _ first pb (omega arith)) pc (omega arith)) pd (omega arith)) pe (omega arith)) pf (omega arith)) pg (omega arith)) ph (omega arith)
-      ∙ ap Is (omega arith)
+      let z : i + 0 ≡ i = omega arith in
+      two chunk i 6 _ d (two chunk i 4 _ c (two chunk i 2 _ b (two chunk i 0 0 a refl (rw z pa) (omega arith)) pb (omega arith)) pc (omega arith)) pd (omega arith) ∙ ap Is (omega arith)

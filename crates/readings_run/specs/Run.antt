@@ -1,5 +1,5 @@
 -- Lines of readings one after the other: what is still printed behind them. Contracts of inner functions cite this.
-use Prim.Native.Nat.{ℕ, _+_, _≤_, _<_}
+use Prim.Native.Nat.{ℕ, _+_, _*_, _≤_, _<_}
 use mathlib.Core.List.{List, [], _++_}
 use mathlib.Core.Bool.{Bool, true, false, _&&_}
 use mathlib.Core.Path.{_≡_}
@@ -23,6 +23,7 @@ use Rattle.reader.specs.Rest.{whole, from-line, Sound, Went}
 use Rattle.reader.specs.declared.Part.{Part}
 use Rattle.reader.specs.declared.Part.the-variants.{Stopped, Text, Long}
 use Rattle.reader.specs.declared.State.{State}
+use Rattle.readings_run.specs.declared.Pair.{Pair}
 use Rattle.readings_run.specs.declared.Ran.{Ran}
 
 -- of a digit its value, and 128 of every other byte; and a table of that
@@ -32,6 +33,13 @@ marked c = if ltb (digit-of c) 16 then digit-of c else 128
 pub record DigitValues (table : List ℕ) : Type 0 where
   pub size : length table ≡ 256
   pub value : (c : ℕ) → c < 256 → getD table c 0 ≡ marked c
+
+-- two bytes by the table: their sum, and the number that they write
+pub record PairAt (chunk : List ℕ) (at : ℕ) (r : Pair) : Type 0 where
+  pub sum : r .sum ≡ marked (getD chunk at 0) + marked (getD chunk (at + 1) 0)
+  pub value : r .value ≡ marked (getD chunk at 0) * 16 + marked (getD chunk (at + 1) 0)
+  pub few : r .sum ≤ 256
+  pub small : r .value ≤ 2176
 
 -- a number that was found is that of the 8 digits at `at`
 abbrev pub WordAt : List ℕ → ℕ → Value → Type 0

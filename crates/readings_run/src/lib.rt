@@ -11,13 +11,19 @@ ghost use mathlib.Core.Path.{_≡_};
 ghost use Prim.Native.Nat.{_+_, _≤_};
 ghost use lib.ListN.{length};
 ghost use Rattle.calls.specs.Calls.{MOST-READINGS};
-ghost use Rattle.readings_run.specs.Run.{DigitValues, marked, WordAt, ReadingAt, Run, RanAs, ready-of, state-after};
+ghost use Rattle.readings_run.specs.Run.{DigitValues, marked, PairAt, WordAt, ReadingAt, Run, RanAs, ready-of, state-after};
 
 // Where a run ends in the chunk, how many readings the call has then, and the number of the next line.
 pub struct Ran {
     pub used: usize,
     pub count: usize,
     pub line: u32,
+}
+
+// Two bytes by a table of digit values.
+struct Pair {
+    sum: u64,
+    value: u64,
 }
 
 // The value of a digit, from a table, and 128 of every other byte.
@@ -29,22 +35,31 @@ fn digit_in(values: &[u8], c: u8) -> u64
     values[at] as u64
 }
 
+// Two bytes from `at` on by the table: their sum, and the number that they write.
+fn two_bytes(values: &[u8], chunk: &[u8], at: usize) -> Pair
+    requires { ⌜ DigitValues (now values) × (at + 2 ≤ length (now chunk)) ⌝ }
+    ensures { λ r. ⌜ PairAt (now (chunk .entry)) at r ⌝ }
+{
+    let high = digit_in(values, chunk[at]);
+    let low = digit_in(values, chunk[at + 1]);
+    Pair {
+        sum: high + low,
+        value: high * 16 + low,
+    }
+}
+
 // The number in 8 bytes from `at` on, if they are digits: 8 digits make less than 128 together.
 fn word(values: &[u8], chunk: &[u8], at: usize) -> Value
     requires { ⌜ DigitValues (now values) × (at + 8 ≤ length (now chunk)) ⌝ }
     ensures { λ r. ⌜ WordAt (now (chunk .entry)) at r ⌝ }
 {
-    let a = digit_in(values, chunk[at]);
-    let b = digit_in(values, chunk[at + 1]);
-    let c = digit_in(values, chunk[at + 2]);
-    let d = digit_in(values, chunk[at + 3]);
-    let e = digit_in(values, chunk[at + 4]);
-    let f = digit_in(values, chunk[at + 5]);
-    let g = digit_in(values, chunk[at + 6]);
-    let h = digit_in(values, chunk[at + 7]);
-    let high = (a * 16 + b) * 256 + (c * 16 + d);
-    let low = (e * 16 + f) * 256 + (g * 16 + h);
-    if a + b + c + d + (e + f + g + h) < 128 {
+    let a = two_bytes(values, chunk, at);
+    let b = two_bytes(values, chunk, at + 2);
+    let c = two_bytes(values, chunk, at + 4);
+    let d = two_bytes(values, chunk, at + 6);
+    let high = a.value * 256 + b.value;
+    let low = c.value * 256 + d.value;
+    if a.sum + b.sum + (c.sum + d.sum) < 128 {
         return Value::Is((high * 65536 + low) as u32);
     }
     Value::No

@@ -10,7 +10,7 @@ least-requires : tie.Need-least-requires
 least-requires c κs = search needs
 
 slice-aggregate-picture : tie.Need-slice-aggregate-picture
-slice-aggregate-picture c = sym (length-take-le _ _ (c .before .least .ensures))
+slice-aggregate-picture c = sym (length-take-le _ _ (c .before .least .ensures .1))
 
 picture-requires : tie.Need-picture-requires
 picture-requires c κs = search needs
