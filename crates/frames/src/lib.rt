@@ -1,11 +1,11 @@
 // The replay's reader: bytes in chunks of any size, calls run in order, answers out, in lent slices of fixed size.
-use bytes_run::Fed;
+use bytes_step::Fed;
 use frames_step::step;
 use frames_text::print;
 use reader::Part;
 use reader::State;
 use reader::fresh_slave;
-use reader::turns::line_feed;
+use reader_turns::line_feed;
 use session::enter::closed;
 ghost use mathlib.Core.Path.{_≡_};
 ghost use Prim.Native.Nat.{_+_, _≤_};

@@ -2,8 +2,8 @@
 pub mod ahead; // whole lines of a chunk
 
 use ahead::fresh_line;
-use bytes_run::Fed;
-use bytes_run::some;
+use bytes_step::Fed;
+use bytes_step::some;
 use reader::State;
 use reader::turns::end_line;
 use readings_run::after_run;

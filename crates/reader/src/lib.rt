@@ -1,5 +1,5 @@
-// The replay's reader: where it is, and what one byte of the input does.
-pub mod turns; // one byte
+// The replay's reader: where it is, and what a byte does to that.
+pub mod turns; // a byte, or the end of a line
 
 use session::Open;
 use slave_state::Pending;

@@ -1,4 +1,4 @@
-// One byte of the input.
+// What a byte of a line, and the end of a line, do to the reader's state. A whole line is entered in `reader_turns`.
 use super::LONGEST_KEPT;
 use super::Part;
 use super::State;
@@ -13,10 +13,8 @@ use lines::width;
 use session::Entered;
 use session::enter::closed;
 use session::enter::enter_wide;
-use session_lines::enter_line;
 ghost use mathlib.Core.Path.{_≡_};
 ghost use mathlib.Core.Bool.{true, false, not, _&&_};
-ghost use mathlib.Core.List.{[], _∷_};
 ghost use Prim.Native.Nat.{_+_, _≤_};
 ghost use lib.Dec.{ltb};
 ghost use lib.ListN.{length, set};
@@ -25,7 +23,7 @@ ghost use Rattle.frames_text.specs.Appended.{Appended};
 ghost use Rattle.calls.specs.Runs.{MOST-TEXT};
 ghost use Rattle.session.specs.Session.{refusal, line-after};
 ghost use Rattle.session.specs.Enter.{LONGEST-KEPT};
-ghost use Rattle.reader.specs.Rest.{whole, Sound, Went, EndedAs, TurnedTo, KeptAs, LongEndedAs, long-line, stopped-at, with-part, begun-of};
+ghost use Rattle.reader.specs.Rest.{EndedAs, TurnedTo, KeptAs, LongEndedAs, long-line, stopped-at, with-part};
 
 pub fn next_line(line: u32) -> u32
     ensures { λ r. ⌜ r ≡ line-after line ⌝ }
@@ -99,7 +97,7 @@ fn is_long(text: &[u8]) -> bool
 }
 
 // A byte of a line that is longer than what is kept.
-fn skip(x: u8, odd: bool, s: State, out: &mut [u8], at: usize) -> Turn
+pub fn skip(x: u8, odd: bool, s: State, out: &mut [u8], at: usize) -> Turn
     requires { ⌜ at + MOST-TEXT ≤ length (now out) ⌝ }
     ensures { λ r. ⌜ TurnedTo s (Part.Long (not odd)) at (now (out .entry)) (now (out .exit)) r (ltb (digit-of x) 16) ⌝ }
 {
@@ -121,7 +119,7 @@ fn lengthen(x: u8, s: State, text: &[u8], out: &mut [u8], at: usize) -> Turn
 }
 
 // A byte of a line of which n bytes are kept.
-fn keep(x: u8, n: usize, s: State, text: &mut [u8], out: &mut [u8], at: usize) -> Turn
+pub fn keep(x: u8, n: usize, s: State, text: &mut [u8], out: &mut [u8], at: usize) -> Turn
     requires { ⌜ (length (now text) ≡ LONGEST-KEPT) × (at + MOST-TEXT ≤ length (now out)) ⌝ }
     ensures { λ r. ⌜ KeptAs s n x (now (text .entry)) at (now (out .entry)) (now (out .exit)) r × (now (text .exit) ≡ set (now (text .entry)) n x) ⌝ }
 {
@@ -133,7 +131,7 @@ fn keep(x: u8, n: usize, s: State, text: &mut [u8], out: &mut [u8], at: usize) -
 }
 
 // The end of such a line.
-fn end_long(odd: bool, s: State, text: &[u8], out: &mut [u8], at: usize) -> Turn
+pub fn end_long(odd: bool, s: State, text: &[u8], out: &mut [u8], at: usize) -> Turn
     requires { ⌜ at + MOST-TEXT ≤ length (now out) ⌝ }
     ensures { λ r. ⌜ LongEndedAs odd s (now (text .entry)) at (now (out .entry)) (now (out .exit)) r ⌝ }
 {
@@ -147,85 +145,5 @@ fn end_long(odd: bool, s: State, text: &[u8], out: &mut [u8], at: usize) -> Turn
             let slave = s.slave;
             end_line(s.line, enter_wide(l, call, slave, at), out, at)
         }
-    }
-}
-
-// An LF.
-pub fn line_feed(
-    s: State,
-    text: &[u8],
-    kinds: &mut [u8],
-    lengths: &mut [u16],
-    bytes: &mut [u8],
-    readings: &mut [u32],
-    buffer: &mut [u8],
-    log: &mut [u32],
-    out: &mut [u8],
-    at: usize,
-) -> Turn
-    requires { ⌜ Sound (whole s (now text) (now kinds) (now lengths) (now bytes) (now readings) (now buffer) (now log)) × (at + MOST-TEXT ≤ length (now out)) ⌝ }
-    ensures { λ r. ⌜ Went (whole s (now (text .entry)) (now (kinds .entry)) (now (lengths .entry)) (now (bytes .entry)) (now (readings .entry)) (now (buffer .entry)) (now (log .entry))) (now (out .entry)) at (10 ∷ []) (whole (r .state) (now (text .entry)) (now (kinds .exit)) (now (lengths .exit)) (now (bytes .exit)) (now (readings .exit)) (now (buffer .exit)) (now (log .exit))) (now (out .exit)) (r .made) [] × (r .made ≤ at + MOST-TEXT) × (begun-of (r .state .part) ≡ false) ⌝ }
-{
-    let p = s.part;
-    match p {
-        Part::Stopped => Turn { state: s, made: at },
-        Part::Text(n) => {
-            let call = s.call;
-            let slave = s.slave;
-            let line = &text[..n];
-            let e = enter_line(
-                line,
-                call,
-                slave,
-                kinds,
-                lengths,
-                bytes,
-                readings,
-                buffer,
-                log,
-                out,
-                at,
-            );
-            end_line(s.line, e, out, at)
-        }
-        Part::Long(odd) => end_long(odd, s, text, out, at),
-    }
-}
-
-pub fn one(
-    x: u8,
-    s: State,
-    text: &mut [u8],
-    kinds: &mut [u8],
-    lengths: &mut [u16],
-    bytes: &mut [u8],
-    readings: &mut [u32],
-    buffer: &mut [u8],
-    log: &mut [u32],
-    out: &mut [u8],
-    at: usize,
-) -> Turn
-    requires { ⌜ Sound (whole s (now text) (now kinds) (now lengths) (now bytes) (now readings) (now buffer) (now log)) × (at + MOST-TEXT ≤ length (now out)) ⌝ }
-    ensures { λ r. ⌜ Went (whole s (now (text .entry)) (now (kinds .entry)) (now (lengths .entry)) (now (bytes .entry)) (now (readings .entry)) (now (buffer .entry)) (now (log .entry))) (now (out .entry)) at (x ∷ []) (whole (r .state) (now (text .exit)) (now (kinds .exit)) (now (lengths .exit)) (now (bytes .exit)) (now (readings .exit)) (now (buffer .exit)) (now (log .exit))) (now (out .exit)) (r .made) [] × (r .made ≤ at + MOST-TEXT) ⌝ }
-{
-    if x == 10 {
-        return line_feed(
-            s,
-            text,
-            kinds,
-            lengths,
-            bytes,
-            readings,
-            buffer,
-            log,
-            out,
-            at,
-        );
-    }
-    let p = s.part;
-    match p {
-        Part::Stopped => Turn { state: s, made: at },
-        Part::Text(n) => keep(x, n, s, text, out, at),
-        Part::Long(odd) => skip(x, odd, s, out, at),
     }
 }

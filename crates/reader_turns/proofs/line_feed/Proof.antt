@@ -1,12 +1,12 @@
--- `reader::turns::line_feed` meets its contract.
+-- `reader_turns::line_feed` meets its contract.
 use mathlib.Core.Path.{sym, _∙_}
 use native.Mathlib.Omega.{arith}
 use lib.Seq.{length-take-le}
 use Rattle.session.specs.Enter.{arrays}
 use Rattle.reader.proofs.Steps.{text-short, line-short, stays, text-lf, long-lf}
 use borrow.Author.Needs.{needs}
-use Rattle.reader.proofs.turns.line_feed.Statement.{statement}
-use Rattle.reader.proofs.turns.line_feed.Tie as tie
+use Rattle.reader_turns.proofs.line_feed.Statement.{statement}
+use Rattle.reader_turns.proofs.line_feed.Tie as tie
 
 enum-told : tie.Need-enum-told
 enum-told c = search needs

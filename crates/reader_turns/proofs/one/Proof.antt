@@ -1,10 +1,10 @@
--- `reader::turns::one` meets its contract.
+-- `reader_turns::one` meets its contract.
 use native.Mathlib.Omega.{arith}
 use Rattle.session.specs.Enter.{arrays}
 use Rattle.reader.proofs.Steps.{stays, text-byte, long-byte}
 use borrow.Author.Needs.{needs}
-use Rattle.reader.proofs.turns.one.Statement.{statement}
-use Rattle.reader.proofs.turns.one.Tie as tie
+use Rattle.reader_turns.proofs.one.Statement.{statement}
+use Rattle.reader_turns.proofs.one.Tie as tie
 
 line-feed-requires : tie.Need-line-feed-requires
 line-feed-requires c κs = search needs

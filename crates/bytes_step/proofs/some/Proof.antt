@@ -1,10 +1,10 @@
--- `bytes_run::some` meets its contract.
+-- `bytes_step::some` meets its contract.
 use borrow.Author.Needs.{needs}
-use Rattle.bytes_run.proofs.some.Statement.{statement}
-use Rattle.bytes_run.proofs.some.Tie as tie
+use Rattle.bytes_step.proofs.some.Statement.{statement}
+use Rattle.bytes_step.proofs.some.Tie as tie
 use native.Mathlib.Omega.{arith}
 use mathlib.Core.Path.{refl, _∙_}
 use Rattle.bytes_run.proofs.Moves.{moved, kept-text, byte-read}
 
 add-used : tie.Need-add-used
 add-used c = search needs
