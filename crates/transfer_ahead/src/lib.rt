@@ -1,4 +1,4 @@
-// The burst that begins at a transfer's point, if one does.
+// How far a transfer comes in one loop from its point: a burst, if one begins there, and polls that find nothing.
 use transfer::FillPoint;
 use transfer::Point;
 use transfer::ReadPoint;
@@ -160,23 +160,8 @@ fn fills_from(
     )
 }
 
-// At a point where no burst begins: polls that find nothing.
-fn idle_from(
-    t: Transfer,
-    p: Point,
-    readings: &[u32],
-    used: usize,
-    log: &mut [u32],
-    entries: usize,
-) -> Ahead
-    requires { ⌜ (t .point ≡ p) × (entries ≤ length (now log) / 2) ⌝ }
-    ensures { λ r. ⌜ ForAny (λ (bytes : List ℕ). ForAny (λ (buffer : List ℕ). GoesAhead bytes (now (readings .entry)) (now (log .entry)) buffer (now (log .exit)) buffer t used entries r)) ⌝ }
-{
-    let c = transfer_idle::polls(p, readings, used, log, entries);
-    came(p, c.used, c.entries)
-}
-
-pub fn burst_from(
+// A burst of whole bytes or rounds, if one begins here.
+fn burst_from(
     t: Transfer,
     bytes: &[u8],
     readings: &[u32],
@@ -192,11 +177,11 @@ pub fn burst_from(
     match p {
         Point::ReadBlocking(r) => match r {
             ReadPoint::Room(i) => read_from(t, i, readings, used, log, entries, buffer),
-            _ => idle_from(t, p, readings, used, log, entries),
+            _ => came(p, used, entries),
         },
         Point::WriteBlocking(w) => match w {
             WritePoint::Send(i) => write_from(t, i, bytes, readings, used, log, entries),
-            _ => idle_from(t, p, readings, used, log, entries),
+            _ => came(p, used, entries),
         },
         Point::ReadAsync(q) => match q {
             RoundPoint::Capacity(round) => rounds_from(
@@ -208,12 +193,31 @@ pub fn burst_from(
                 entries,
                 buffer,
             ),
-            _ => idle_from(t, p, readings, used, log, entries),
+            _ => came(p, used, entries),
         },
         Point::WriteAsync(f) => match f {
             FillPoint::Free(i) => fills_from(t, i, bytes, readings, used, log, entries),
-            _ => idle_from(t, p, readings, used, log, entries),
+            _ => came(p, used, entries),
         },
-        _ => idle_from(t, p, readings, used, log, entries),
+        _ => came(p, used, entries),
     }
+}
+
+// The burst that begins here, if one does, and then polls that find nothing.
+pub fn ahead_from(
+    t: Transfer,
+    bytes: &[u8],
+    readings: &[u32],
+    used: usize,
+    log: &mut [u32],
+    entries: usize,
+    buffer: &mut [u8],
+) -> Ahead
+    requires { ⌜ entries ≤ length (now log) / 2 ⌝ }
+    ensures { λ r. ⌜ GoesAhead (now (bytes .entry)) (now (readings .entry)) (now (log .entry)) (now (buffer .entry)) (now (log .exit)) (now (buffer .exit)) t used entries r ⌝ }
+{
+    let a = burst_from(t, bytes, readings, used, log, entries, buffer);
+    let p = a.point;
+    let c = transfer_idle::polls(p, readings, a.used, log, a.entries);
+    came(p, c.used, c.entries)
 }

@@ -18,7 +18,7 @@ pub enum Stepped {
     Stopped(Ran),
 }
 
-// The burst that begins here, if one does, and one access.
+// What goes ahead in one loop from here, and one access.
 fn step(
     t: Transfer,
     kinds: &[u8],
@@ -33,7 +33,7 @@ fn step(
     requires { ⌜ entries ≤ length (now log) / 2 ⌝ }
     ensures { λ r. ⌜ Steps (now (kinds .entry)) (now (lengths .entry)) (now (bytes .entry)) (now (readings .entry)) (now (log .entry)) (now (buffer .entry)) (now (log .exit)) (now (buffer .exit)) t used entries r ⌝ }
 {
-    let a = transfer_ahead::burst_from(t, bytes, readings, used, log, entries, buffer);
+    let a = transfer_ahead::ahead_from(t, bytes, readings, used, log, entries, buffer);
     let u = a.used;
     let k = a.entries;
     let p = a.point;
