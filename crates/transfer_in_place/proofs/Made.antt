@@ -1,0 +1,40 @@
+-- A step that was made, and one that was not.
+use Prim.Native.Nat.{ℕ, _-_, _<_, _≤_}
+use mathlib.Core.Path.{_≡_, refl}
+use mathlib.Core.Bool.{true, false}
+use mathlib.Core.List.{List}
+use native.Mathlib.Nat.{mod-eq-of-lt}
+use native.Mathlib.Omega.{arith}
+use borrow.Author.Tests.{le-ltb, ne-eqb}
+use lib.Dec.{eqb, ltb}
+use lib.ListN.{getD}
+use Rattle.regs.specs.Fields.{level}
+use Rattle.transfer_numbers.specs.Held.{advanced-held}
+use Rattle.transfer_words.specs.Words.{half-of, held-at}
+use Rattle.transfer_in_place.specs.InPlace.{InPlace}
+
+-- words e stand for where an access that read v leads from words s
+abbrev pub Leads : List ℕ → ℕ → List ℕ → Type 0
+Leads s v e = (kinds lengths : List ℕ) → held-at e ≡ advanced-held kinds lengths (held-at s) v
+
+-- so they do from a row of a group, where H holds
+abbrev pub Law : ℕ → ℕ → ℕ → (List ℕ → Type 0) → (List ℕ → List ℕ) → List ℕ → Type 0
+Law group row v H f s = getD s 0 0 ≡ group → getD s 1 0 ≡ row → H s → Leads s v (f s)
+
+pub made : {s : List ℕ} {v : ℕ} {e : List ℕ} → Leads s v e → InPlace s v true e
+made l = record { moved = λ _. l; same = λ h. cc }
+
+pub not-made : {s : List ℕ} {v : ℕ} → InPlace s v false s
+not-made = record { moved = λ h kinds lengths. cc; same = λ _. refl }
+
+-- a number of 16 bits is kept by a word
+pub small : (n m : ℕ) → n ≤ half-of m → half-of n ≡ n
+small n m h = mod-eq-of-lt (omega arith)
+
+-- the level leaves a place in the FIFO
+module _ (v : ℕ) (h : level v < 16) where
+  pub not-over : ltb 16 (level v) ≡ false
+  not-over = le-ltb 16 (level v) (omega arith)
+
+  pub some-free : eqb (16 - level v) 0 ≡ false
+  some-free = ne-eqb (16 - level v) 0 (λ (e : 16 - level v ≡ 0). omega arith)

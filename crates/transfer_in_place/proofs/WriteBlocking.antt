@@ -1,0 +1,48 @@
+-- Where a blocking write leads, in words.
+use Prim.Native.Nat.{ℕ, _+_, _-_, _<_, _≤_, _%_, _^_, min}
+use mathlib.Core.Path.{_≡_, refl, ap, _∙_}
+use mathlib.Core.Bool.{Bool, true, false, _&&_}
+use mathlib.Core.List.{List}
+use native.Mathlib.Nat.{mod-eq-of-lt, min-le-left, min-le-right}
+use native.Mathlib.Omega.{arith}
+use borrow.Author.Tests.{lt-ltb, le-ltb, eq-eqb, ne-eqb}
+use lib.Dec.{eqb, ltb}
+use lib.ListN.{length, getD, set}
+use Rattle.regs.specs.Fields.{level, tx-empty}
+use Rattle.transfer.specs.Machine.{step-write, step-of}
+use Rattle.transfer_numbers.specs.Held.{held-in}
+use Rattle.transfer_numbers.specs.Numbers.{write-at, abort-at, caller-at, point-at}
+use Rattle.transfer_words.specs.Words.{half-of, who-in, place-in, transfer-in, held-at}
+use Rattle.transfer_words.proofs.Cells.{Cells, each}
+use Rattle.transfer_in_place.proofs.Made.{Law, Leads, small, not-over, some-free}
+
+module _ (v : ℕ) where
+  abbrev send-if : List ℕ → Type 0
+  send-if s = Unit {0}
+
+  abbrev send-to : List ℕ → List ℕ
+  send-to s = set s 1 1
+
+  pub send : (s : List ℕ) → length s ≡ 20 → Law 3 0 v send-if send-to s
+  unfolding held-at transfer-in place-in point-at step-of held-in who-in write-at step-write
+  send = each (Law 3 0 v send-if send-to) (λ a g r h kinds lengths. simp (g, r))
+
+  abbrev empty-if : List ℕ → Type 0
+  empty-if s = tx-empty v ≡ true
+
+  abbrev empty-to : List ℕ → List ℕ
+  empty-to s = set (set (set s 0 1) 1 0) 3 1
+
+  pub empty : (s : List ℕ) → length s ≡ 20 → Law 3 1 v empty-if empty-to s
+  unfolding held-at transfer-in place-in point-at step-of held-in who-in write-at step-write abort-at caller-at
+  empty = each (Law 3 1 v empty-if empty-to) (λ a g r h kinds lengths. simp (g, r, h))
+
+  abbrev waiting-if : List ℕ → Type 0
+  waiting-if s = tx-empty v ≡ false
+
+  abbrev waiting-to : List ℕ → List ℕ
+  waiting-to s = s
+
+  pub waiting : (s : List ℕ) → length s ≡ 20 → Law 3 1 v waiting-if waiting-to s
+  unfolding held-at transfer-in place-in point-at step-of held-in who-in write-at step-write
+  waiting = each (Law 3 1 v waiting-if waiting-to) (λ a g r h kinds lengths. simp (g, r, h))

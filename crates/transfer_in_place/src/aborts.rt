@@ -1,0 +1,85 @@
+// fn read_and_clear_abort_reason on words, where no abort was read.
+use transfer::counts::smaller;
+use transfer_words::BATCH;
+use transfer_words::COUNT;
+use transfer_words::GROUP;
+use transfer_words::INDEX;
+use transfer_words::KIND;
+use transfer_words::LEN;
+use transfer_words::REMAINING;
+use transfer_words::ROW;
+use transfer_words::half;
+use transfer_words::sized;
+ghost use mathlib.Core.Path.{_≡_};
+ghost use lib.ListN.{getD};
+ghost use Rattle.transfer_in_place.specs.InPlace.{InPlace};
+
+// A byte was written: to the next one, where one follows.
+fn written(words: &mut [u64; 20], v: u32) -> bool
+    requires { ⌜ (getD (now words) 0 0 ≡ 1) × (getD (now words) 1 0 ≡ 0) × (getD (now words) 3 0 ≡ 1) × (v ≡ 0) ⌝ }
+    ensures { λ r. ⌜ InPlace (now (words .entry)) v r (now (words .exit)) ⌝ }
+{
+    sized(words);
+    let next = words[INDEX] % 65536 + 1;
+    if next < words[LEN] % 65536 {
+        words[GROUP] = 3;
+        words[INDEX] = next;
+        return true;
+    }
+    false
+}
+
+// A batch arrived: its bytes are to be fetched.
+fn arrived(words: &mut [u64; 20], v: u32) -> bool
+    requires { ⌜ (getD (now words) 0 0 ≡ 1) × (getD (now words) 1 0 ≡ 0) × (getD (now words) 3 0 ≡ 2) × (v ≡ 0) ⌝ }
+    ensures { λ r. ⌜ InPlace (now (words .entry)) v r (now (words .exit)) ⌝ }
+{
+    sized(words);
+    let level = half(words[COUNT]);
+    let remaining = half(words[REMAINING]);
+    if level < half(words[BATCH]) {
+        return false;
+    }
+    let n = smaller(level, remaining);
+    if n == 0 {
+        return false;
+    }
+    words[GROUP] = 4;
+    words[ROW] = 3;
+    words[COUNT] = n as u64;
+    words[REMAINING] = (remaining - n) as u64;
+    true
+}
+
+// Back to who looked for an abort.
+pub fn step(words: &mut [u64; 20], v: u32) -> bool
+    requires { ⌜ getD (now words) 0 0 ≡ 1 ⌝ }
+    ensures { λ r. ⌜ InPlace (now (words .entry)) v r (now (words .exit)) ⌝ }
+{
+    sized(words);
+    let row = words[ROW];
+    if row != 0 {
+        return false;
+    }
+    if v != 0 {
+        return false;
+    }
+    let kind = words[KIND];
+    if kind == 0 {
+        words[GROUP] = 2;
+        words[ROW] = 2;
+        return true;
+    }
+    if kind == 1 {
+        return written(words, v);
+    }
+    if kind == 2 {
+        return arrived(words, v);
+    }
+    if kind == 3 {
+        words[GROUP] = 5;
+        words[ROW] = 2;
+        return true;
+    }
+    false
+}
