@@ -83,17 +83,20 @@ impl<'a> Transfer<'a> {
         Self::start(queued, false, address, operations, write, read)
     }
 
+    #[inline]
     pub fn next_access(&self) -> Access {
         raw::next_access(&self.words, self.write).into()
     }
 
     /// Goes on after the access, which read `value` (0 where it read nothing).
+    #[inline]
     pub fn advance(&mut self, value: u32) {
         let (kinds, lengths) = (&self.kinds[..self.count], &self.lengths[..self.count]);
         raw::advance(&mut self.words, value, kinds, lengths, self.read);
     }
 
     /// Goes on after the access, which read `value`, and tells the next one: both in one call.
+    #[inline]
     pub fn step(&mut self, value: u32) -> Access {
         let (kinds, lengths) = (&self.kinds[..self.count], &self.lengths[..self.count]);
         raw::step(&mut self.words, value, kinds, lengths, self.write, self.read).into()
@@ -101,6 +104,7 @@ impl<'a> Transfer<'a> {
 }
 
 impl From<raw::Access> for Access {
+    #[inline]
     fn from(access: raw::Access) -> Self {
         match access.kind {
             1 => Access::Read(access.register),

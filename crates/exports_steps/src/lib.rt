@@ -111,7 +111,7 @@ pub extern "C" fn celadonsaw_next_access(words: &[u64; 20], write: &[u8]) -> Acc
             value: transfer_words::full(words[WORD]),
         };
     }
-    told_access(transfer_words_access::next_access(words, write))
+    told_access(transfer_access::next_access(transfer_words::transfer_from(words), write))
 }
 
 // A step that is not made on the words: they are decoded, and the transfer after the step is put back.
@@ -138,6 +138,30 @@ pub extern "C" fn celadonsaw_advance(
     ensures { λ _. ⌜ now (read .exit) ≡ stored-in (now (read .entry)) (store-held (held-at (now (words .entry))) value) ⌝ }
 {
     regs::access::keep(read, transfer_words_access::store(words, value));
+    by_points(words, value, kinds, lengths);
+}
+
+// The access that is next, for `celadonsaw_step` alone: with one caller it is inlined there.
+fn next(words: &[u64; 20], write: &[u8]) -> Access
+    ensures { λ r. ⌜ r ≡ access-held (now (write .entry)) (held-at (now (words .entry))) ⌝ }
+{
+    if transfer_words::ended(words) {
+        return Access {
+            kind: 0,
+            register: 0,
+            number: transfer_words::byte(words[ROW]),
+            value: transfer_words::full(words[WORD]),
+        };
+    }
+    told_access(transfer_words_access::next_access(words, write))
+}
+
+// A frequent step is made on the words. Also for `celadonsaw_step` alone.
+fn advance(words: &mut [u64; 20], value: u32, kinds: &[u8], lengths: &[u16], read: &mut [u8])
+    ensures { λ _. ⌜ held-at (now (words .exit)) ≡ advanced-held (now (kinds .entry)) (now (lengths .entry)) (held-at (now (words .entry))) value ⌝ }
+    ensures { λ _. ⌜ now (read .exit) ≡ stored-in (now (read .entry)) (store-held (held-at (now (words .entry))) value) ⌝ }
+{
+    regs::access::keep(read, transfer_words_access::store(words, value));
     if transfer_in_place::step(words, value) {
         return;
     }
@@ -158,6 +182,6 @@ pub extern "C" fn celadonsaw_step(
     ensures { λ _. ⌜ held-at (now (words .exit)) ≡ advanced-held (now (kinds .entry)) (now (lengths .entry)) (held-at (now (words .entry))) value ⌝ }
     ensures { λ _. ⌜ now (read .exit) ≡ stored-in (now (read .entry)) (store-held (held-at (now (words .entry))) value) ⌝ }
 {
-    celadonsaw_advance(words, value, kinds, lengths, read);
-    celadonsaw_next_access(words, write)
+    advance(words, value, kinds, lengths, read);
+    next(words, write)
 }

@@ -108,14 +108,17 @@ pub fn start(
     call!(celadonsaw_start(words, queued, restart, address, ref kinds, ref lengths, written, room))
 }
 
+#[inline]
 pub fn next_access(words: &Words, write: &[u8]) -> Access {
     call!(celadonsaw_next_access(words, ref write))
 }
 
+#[inline]
 pub fn advance(words: &mut Words, value: u32, kinds: &[u8], lengths: &[u16], read: &mut [u8]) {
     call!(celadonsaw_advance(words, value, ref kinds, ref lengths, mut read))
 }
 
+#[inline]
 pub fn step(words: &mut Words, value: u32, kinds: &[u8], lengths: &[u16], write: &[u8], read: &mut [u8]) -> Access {
     call!(celadonsaw_step(words, value, ref kinds, ref lengths, ref write, mut read))
 }

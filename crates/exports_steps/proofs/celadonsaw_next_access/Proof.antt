@@ -1,6 +1,6 @@
 -- `exports_steps::celadonsaw_next_access` meets its contract.
 use borrow.Author.Needs.{needs}
-use mathlib.Core.Path.{sym, _∙_, ap}
+use mathlib.Core.Path.{sym, _∙_}
 use Rattle.transfer_words.specs.Words.{held-at}
 use Rattle.exports_steps.specs.Steps.{ended, access-held}
 use Rattle.exports_steps.proofs.celadonsaw_next_access.Statement.{statement}
@@ -25,6 +25,9 @@ returns : tie.Need-returns
 unfolding held-at access-held ended
 returns c = simp (sym (c .before .before .before .before .before .ended .ensures) ∙ c .before .before .before .before .if1 .taken, c .before .before .byte .ensures, c .full .ensures)
 
+transfer-from-requires : tie.Need-transfer-from-requires
+transfer-from-requires c κs = search needs
+
 next-access-requires : tie.Need-next-access-requires
 next-access-requires c κs = search needs
 
@@ -33,7 +36,7 @@ told-access-requires c κs = search needs
 
 returns-2 : tie.Need-returns-2
 unfolding held-at access-held
-returns-2 c = simp (sym (c .before .before .before .ended .ensures) ∙ c .before .before .if1 .left, c .before .next-access .ensures, c .told-access .ensures)
+returns-2 c = simp (sym (c .before .before .before .before .ended .ensures) ∙ c .before .before .before .if1 .left, c .before .before .transfer-from .ensures, c .before .next-access .ensures, c .told-access .ensures)
 
 pub celadonsaw-next-access-spec : {M : Type 1} → statement M
 celadonsaw-next-access-spec =
@@ -45,6 +48,7 @@ celadonsaw-next-access-spec =
     element-copy-out-full
     full-requires
     returns
+    transfer-from-requires
     next-access-requires
     told-access-requires
     returns-2)
