@@ -141,34 +141,7 @@ pub extern "C" fn celadonsaw_advance(
     by_points(words, value, kinds, lengths);
 }
 
-// The access that is next, for `celadonsaw_step` alone: with one caller it is inlined there.
-fn next(words: &[u64; 20], write: &[u8]) -> Access
-    ensures { λ r. ⌜ r ≡ access-held (now (write .entry)) (held-at (now (words .entry))) ⌝ }
-{
-    if transfer_words::ended(words) {
-        return Access {
-            kind: 0,
-            register: 0,
-            number: transfer_words::byte(words[ROW]),
-            value: transfer_words::full(words[WORD]),
-        };
-    }
-    told_access(transfer_words_access::next_access(words, write))
-}
-
-// A frequent step is made on the words. Also for `celadonsaw_step` alone.
-fn advance(words: &mut [u64; 20], value: u32, kinds: &[u8], lengths: &[u16], read: &mut [u8])
-    ensures { λ _. ⌜ held-at (now (words .exit)) ≡ advanced-held (now (kinds .entry)) (now (lengths .entry)) (held-at (now (words .entry))) value ⌝ }
-    ensures { λ _. ⌜ now (read .exit) ≡ stored-in (now (read .entry)) (store-held (held-at (now (words .entry))) value) ⌝ }
-{
-    regs::access::keep(read, transfer_words_access::store(words, value));
-    if transfer_in_place::step(words, value) {
-        return;
-    }
-    by_points(words, value, kinds, lengths);
-}
-
-// Both in one call: advances, and tells the access that is next.
+// Both in one call: advances, and tells the access that is next. The frequent steps are here alone: with one caller their code is inlined.
 #[no_mangle]
 pub extern "C" fn celadonsaw_step(
     words: &mut [u64; 20],
@@ -182,6 +155,18 @@ pub extern "C" fn celadonsaw_step(
     ensures { λ _. ⌜ held-at (now (words .exit)) ≡ advanced-held (now (kinds .entry)) (now (lengths .entry)) (held-at (now (words .entry))) value ⌝ }
     ensures { λ _. ⌜ now (read .exit) ≡ stored-in (now (read .entry)) (store-held (held-at (now (words .entry))) value) ⌝ }
 {
-    advance(words, value, kinds, lengths, read);
-    next(words, write)
+    regs::access::keep(read, transfer_words_access::store(words, value));
+    let code = transfer_in_place::step(words, value);
+    if code == 0 {
+        by_points(words, value, kinds, lengths);
+        let a = celadonsaw_next_access(words, write);
+        // Field by field: then the access is put together in a register, and not in memory.
+        return Access {
+            kind: a.kind,
+            register: a.register,
+            number: a.number,
+            value: a.value,
+        };
+    }
+    told_access(transfer_words_access::access_at(words, code / 8, code % 8, write))
 }

@@ -23,9 +23,9 @@ module _ (v : ℕ) where
   abbrev send-to : List ℕ → List ℕ
   send-to s = set s 1 1
 
-  pub send : (s : List ℕ) → length s ≡ 20 → Law 3 0 v send-if send-to s
+  pub send : (s : List ℕ) → length s ≡ 20 → Law 3 0 25 v send-if send-to s
   unfolding held-at transfer-in place-in point-at step-of held-in who-in write-at step-write
-  send = each (Law 3 0 v send-if send-to) (λ a g r h kinds lengths. simp (g, r))
+  send = each (Law 3 0 25 v send-if send-to) (λ a g r h. ((λ kinds lengths. simp (g, r)), g, refl))
 
   abbrev empty-if : List ℕ → Type 0
   empty-if s = tx-empty v ≡ true
@@ -33,9 +33,9 @@ module _ (v : ℕ) where
   abbrev empty-to : List ℕ → List ℕ
   empty-to s = set (set (set s 0 1) 1 0) 3 1
 
-  pub empty : (s : List ℕ) → length s ≡ 20 → Law 3 1 v empty-if empty-to s
+  pub empty : (s : List ℕ) → length s ≡ 20 → Law 3 1 8 v empty-if empty-to s
   unfolding held-at transfer-in place-in point-at step-of held-in who-in write-at step-write abort-at caller-at
-  empty = each (Law 3 1 v empty-if empty-to) (λ a g r h kinds lengths. simp (g, r, h))
+  empty = each (Law 3 1 8 v empty-if empty-to) (λ a g r h. ((λ kinds lengths. simp (g, r, h)), refl, refl))
 
   abbrev waiting-if : List ℕ → Type 0
   waiting-if s = tx-empty v ≡ false
@@ -43,6 +43,6 @@ module _ (v : ℕ) where
   abbrev waiting-to : List ℕ → List ℕ
   waiting-to s = s
 
-  pub waiting : (s : List ℕ) → length s ≡ 20 → Law 3 1 v waiting-if waiting-to s
+  pub waiting : (s : List ℕ) → length s ≡ 20 → Law 3 1 25 v waiting-if waiting-to s
   unfolding held-at transfer-in place-in point-at step-of held-in who-in write-at step-write
-  waiting = each (Law 3 1 v waiting-if waiting-to) (λ a g r h kinds lengths. simp (g, r, h))
+  waiting = each (Law 3 1 25 v waiting-if waiting-to) (λ a g r h. ((λ kinds lengths. simp (g, r, h)), g, r))

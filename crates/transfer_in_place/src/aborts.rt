@@ -1,4 +1,8 @@
 // fn read_and_clear_abort_reason on words, where no abort was read.
+use super::FETCH;
+use super::FULL;
+use super::READ_LEVEL;
+use super::SEND;
 use transfer::counts::smaller;
 use transfer_words::BATCH;
 use transfer_words::COUNT;
@@ -15,7 +19,7 @@ ghost use lib.ListN.{getD};
 ghost use Rattle.transfer_in_place.specs.InPlace.{InPlace};
 
 // A byte was written: to the next one, where one follows.
-fn written(words: &mut [u64; 20], v: u32) -> bool
+fn written(words: &mut [u64; 20], v: u32) -> u64
     requires { ⌜ (getD (now words) 0 0 ≡ 1) × (getD (now words) 1 0 ≡ 0) × (getD (now words) 3 0 ≡ 1) × (v ≡ 0) ⌝ }
     ensures { λ r. ⌜ InPlace (now (words .entry)) v r (now (words .exit)) ⌝ }
 {
@@ -24,13 +28,13 @@ fn written(words: &mut [u64; 20], v: u32) -> bool
     if next < words[LEN] % 65536 {
         words[GROUP] = 3;
         words[INDEX] = next;
-        return true;
+        return SEND;
     }
-    false
+    0
 }
 
 // A batch arrived: its bytes are to be fetched.
-fn arrived(words: &mut [u64; 20], v: u32) -> bool
+fn arrived(words: &mut [u64; 20], v: u32) -> u64
     requires { ⌜ (getD (now words) 0 0 ≡ 1) × (getD (now words) 1 0 ≡ 0) × (getD (now words) 3 0 ≡ 2) × (v ≡ 0) ⌝ }
     ensures { λ r. ⌜ InPlace (now (words .entry)) v r (now (words .exit)) ⌝ }
 {
@@ -38,37 +42,37 @@ fn arrived(words: &mut [u64; 20], v: u32) -> bool
     let level = half(words[COUNT]);
     let remaining = half(words[REMAINING]);
     if level < half(words[BATCH]) {
-        return false;
+        return 0;
     }
     let n = smaller(level, remaining);
     if n == 0 {
-        return false;
+        return 0;
     }
     words[GROUP] = 4;
     words[ROW] = 3;
     words[COUNT] = n as u64;
     words[REMAINING] = (remaining - n) as u64;
-    true
+    FETCH
 }
 
 // Back to who looked for an abort.
-pub fn step(words: &mut [u64; 20], v: u32) -> bool
+pub fn step(words: &mut [u64; 20], v: u32) -> u64
     requires { ⌜ getD (now words) 0 0 ≡ 1 ⌝ }
     ensures { λ r. ⌜ InPlace (now (words .entry)) v r (now (words .exit)) ⌝ }
 {
     sized(words);
     let row = words[ROW];
     if row != 0 {
-        return false;
+        return 0;
     }
     if v != 0 {
-        return false;
+        return 0;
     }
     let kind = words[KIND];
     if kind == 0 {
         words[GROUP] = 2;
         words[ROW] = 2;
-        return true;
+        return READ_LEVEL;
     }
     if kind == 1 {
         return written(words, v);
@@ -79,7 +83,7 @@ pub fn step(words: &mut [u64; 20], v: u32) -> bool
     if kind == 3 {
         words[GROUP] = 5;
         words[ROW] = 2;
-        return true;
+        return FULL;
     }
-    false
+    0
 }

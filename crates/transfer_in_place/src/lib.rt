@@ -9,8 +9,37 @@ use transfer_words::GROUP;
 ghost use lib.ListN.{getD};
 ghost use Rattle.transfer_in_place.specs.InPlace.{InPlace};
 
-// Makes the step after an access that read v, where it is a frequent one, and tells whether it was made.
-pub fn step(words: &mut [u64; 20], v: u32) -> bool
+// The points that these steps lead to: 8 times the group, and the row.
+const SOURCE: u64 = 8;
+
+const ROOM: u64 = 16;
+
+const ASK: u64 = 17;
+
+const READ_LEVEL: u64 = 18;
+
+const TAKE: u64 = 19;
+
+const SEND: u64 = 24;
+
+const EMPTY: u64 = 25;
+
+const CAPACITY: u64 = 32;
+
+const QUEUED: u64 = 33;
+
+const LEVEL: u64 = 34;
+
+const FETCH: u64 = 35;
+
+const FREE: u64 = 40;
+
+const FILL: u64 = 41;
+
+const FULL: u64 = 42;
+
+// Makes the step after an access that read v, where it is a frequent one, and tells the point that it led to; else 0.
+pub fn step(words: &mut [u64; 20], v: u32) -> u64
     ensures { λ r. ⌜ InPlace (now (words .entry)) v r (now (words .exit)) ⌝ }
 {
     let group = words[GROUP];
@@ -29,5 +58,5 @@ pub fn step(words: &mut [u64; 20], v: u32) -> bool
     if group == 5 {
         return write_async::step(words, v);
     }
-    false
+    0
 }

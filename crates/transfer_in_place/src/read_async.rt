@@ -1,4 +1,9 @@
 // fn read_async_internal on words.
+use super::CAPACITY;
+use super::FETCH;
+use super::LEVEL;
+use super::QUEUED;
+use super::SOURCE;
 use regs::fields::level_of;
 use transfer::counts::less;
 use transfer::counts::smaller;
@@ -16,29 +21,29 @@ ghost use lib.ListN.{getD};
 ghost use Rattle.transfer_in_place.specs.InPlace.{InPlace};
 
 // From `Capacity` to so many words to queue, or to `Level`.
-fn capacity(words: &mut [u64; 20], v: u32) -> bool
+fn capacity(words: &mut [u64; 20], v: u32) -> u64
     requires { ⌜ (getD (now words) 0 0 ≡ 4) × (getD (now words) 1 0 ≡ 0) ⌝ }
     ensures { λ r. ⌜ InPlace (now (words .entry)) v r (now (words .exit)) ⌝ }
 {
     sized(words);
     let level = level_of(v);
     if 16 < level {
-        return false;
+        return 0;
     }
     let n = smaller(half(words[QUEUE]), (16 - level) as u16);
     if n == 0 {
         words[ROW] = 2;
         words[BATCH] = 0;
-        return true;
+        return LEVEL;
     }
     words[ROW] = 1;
     words[COUNT] = n as u64;
     words[BATCH] = n as u64;
-    true
+    QUEUED
 }
 
 // A word was queued.
-fn queued(words: &mut [u64; 20], v: u32) -> bool
+fn queued(words: &mut [u64; 20], v: u32) -> u64
     requires { ⌜ (getD (now words) 0 0 ≡ 4) × (getD (now words) 1 0 ≡ 1) ⌝ }
     ensures { λ r. ⌜ InPlace (now (words .entry)) v r (now (words .exit)) ⌝ }
 {
@@ -47,14 +52,14 @@ fn queued(words: &mut [u64; 20], v: u32) -> bool
     words[QUEUE] = less(half(words[QUEUE])) as u64;
     if left == 0 {
         words[ROW] = 2;
-        return true;
+        return LEVEL;
     }
     words[COUNT] = left as u64;
-    true
+    QUEUED
 }
 
 // A byte was fetched: the next one, or the next round where bytes remain.
-fn fetched(words: &mut [u64; 20], v: u32) -> bool
+fn fetched(words: &mut [u64; 20], v: u32) -> u64
     requires { ⌜ (getD (now words) 0 0 ≡ 4) × (getD (now words) 1 0 ≡ 3) ⌝ }
     ensures { λ r. ⌜ InPlace (now (words .entry)) v r (now (words .exit)) ⌝ }
 {
@@ -62,17 +67,17 @@ fn fetched(words: &mut [u64; 20], v: u32) -> bool
     let left = less(half(words[COUNT]));
     if left != 0 {
         words[COUNT] = left as u64;
-        return true;
+        return FETCH;
     }
     if words[REMAINING] % 65536 == 0 {
-        return false;
+        return 0;
     }
     words[ROW] = 0;
-    true
+    CAPACITY
 }
 
 // At `Level` a look for an abort follows, with the level.
-pub fn step(words: &mut [u64; 20], v: u32) -> bool
+pub fn step(words: &mut [u64; 20], v: u32) -> u64
     requires { ⌜ getD (now words) 0 0 ≡ 4 ⌝ }
     ensures { λ r. ⌜ InPlace (now (words .entry)) v r (now (words .exit)) ⌝ }
 {
@@ -89,10 +94,10 @@ pub fn step(words: &mut [u64; 20], v: u32) -> bool
         words[ROW] = 0;
         words[KIND] = 2;
         words[COUNT] = level_of(v) as u64;
-        return true;
+        return SOURCE;
     }
     if row == 3 {
         return fetched(words, v);
     }
-    false
+    0
 }

@@ -1,4 +1,7 @@
 // fn write_async_internal on words.
+use super::FILL;
+use super::FREE;
+use super::SOURCE;
 use regs::fields::level_of;
 use transfer::counts::less;
 use transfer_words::COUNT;
@@ -14,30 +17,30 @@ ghost use lib.ListN.{getD};
 ghost use Rattle.transfer_in_place.specs.InPlace.{InPlace};
 
 // From `Free` to so many places to fill, or to a look for an abort where none is free.
-fn free(words: &mut [u64; 20], v: u32) -> bool
+fn free(words: &mut [u64; 20], v: u32) -> u64
     requires { ⌜ (getD (now words) 0 0 ≡ 5) × (getD (now words) 1 0 ≡ 0) ⌝ }
     ensures { λ r. ⌜ InPlace (now (words .entry)) v r (now (words .exit)) ⌝ }
 {
     sized(words);
     let level = level_of(v);
     if 16 < level {
-        return false;
+        return 0;
     }
     if level == 16 {
         words[GROUP] = 1;
         words[KIND] = 3;
-        return true;
+        return SOURCE;
     }
     if words[INDEX] % 65536 < words[LEN] % 65536 {
         words[ROW] = 1;
         words[COUNT] = (16 - level) as u64;
-        return true;
+        return FILL;
     }
-    false
+    0
 }
 
 // A byte was sent: the next place is filled, or a look for an abort follows.
-fn filled(words: &mut [u64; 20], v: u32) -> bool
+fn filled(words: &mut [u64; 20], v: u32) -> u64
     requires { ⌜ (getD (now words) 0 0 ≡ 5) × (getD (now words) 1 0 ≡ 1) ⌝ }
     ensures { λ r. ⌜ InPlace (now (words .entry)) v r (now (words .exit)) ⌝ }
 {
@@ -45,7 +48,7 @@ fn filled(words: &mut [u64; 20], v: u32) -> bool
     let next = words[INDEX] % 65536 + 1;
     let len = words[LEN] % 65536;
     if len < next {
-        return false;
+        return 0;
     }
     let left = less(half(words[COUNT]));
     if left == 0 {
@@ -53,18 +56,18 @@ fn filled(words: &mut [u64; 20], v: u32) -> bool
         words[ROW] = 0;
         words[KIND] = 3;
         words[INDEX] = next;
-        return true;
+        return SOURCE;
     }
     if next < len {
         words[INDEX] = next;
         words[COUNT] = left as u64;
-        return true;
+        return FILL;
     }
-    false
+    0
 }
 
 // At `Full` a free place leads to `Free`.
-pub fn step(words: &mut [u64; 20], v: u32) -> bool
+pub fn step(words: &mut [u64; 20], v: u32) -> u64
     requires { ⌜ getD (now words) 0 0 ≡ 5 ⌝ }
     ensures { λ r. ⌜ InPlace (now (words .entry)) v r (now (words .exit)) ⌝ }
 {
@@ -79,9 +82,9 @@ pub fn step(words: &mut [u64; 20], v: u32) -> bool
     if row == 2 {
         if level_of(v) < 16 {
             words[ROW] = 0;
-            return true;
+            return FREE;
         }
-        return false;
+        return 0;
     }
-    false
+    0
 }

@@ -1,4 +1,6 @@
 // fn write_blocking_internal on words.
+use super::EMPTY;
+use super::SOURCE;
 use regs::fields::has_tx_empty;
 use transfer_words::GROUP;
 use transfer_words::KIND;
@@ -9,7 +11,7 @@ ghost use lib.ListN.{getD};
 ghost use Rattle.transfer_in_place.specs.InPlace.{InPlace};
 
 // From `Send` to `Empty`, and from there to a look for an abort where the FIFO is empty.
-pub fn step(words: &mut [u64; 20], v: u32) -> bool
+pub fn step(words: &mut [u64; 20], v: u32) -> u64
     requires { ⌜ getD (now words) 0 0 ≡ 3 ⌝ }
     ensures { λ r. ⌜ InPlace (now (words .entry)) v r (now (words .exit)) ⌝ }
 {
@@ -17,16 +19,16 @@ pub fn step(words: &mut [u64; 20], v: u32) -> bool
     let row = words[ROW];
     if row == 0 {
         words[ROW] = 1;
-        return true;
+        return EMPTY;
     }
     if row == 1 {
         if has_tx_empty(v) {
             words[GROUP] = 1;
             words[ROW] = 0;
             words[KIND] = 1;
-            return true;
+            return SOURCE;
         }
-        return true;
+        return EMPTY;
     }
-    false
+    0
 }

@@ -43,98 +43,98 @@ ghost use Rattle.transfer.specs.Machine.{next-of};
 ghost use Rattle.transfer_numbers.specs.Held.{store-held};
 ghost use Rattle.transfer_words.specs.Words.{transfer-in, held-at};
 
-fn at_setup(words: &[u64; 20]) -> Next
-    requires { ⌜ getD (now words) 0 0 ≡ 0 ⌝ }
+fn at_setup(words: &[u64; 20], row: u64) -> Next
+    requires { ⌜ (getD (now words) 0 0 ≡ 0) × (getD (now words) 1 0 ≡ row) ⌝ }
     ensures { λ r. ⌜ ((bytes : List ℕ) → r ≡ next-of bytes (transfer-in (now (words .entry)))) ⌝ }
 {
-    next_setup(setup_of(words[ROW]), half(words[ADDRESS]))
+    next_setup(setup_of(row), half(words[ADDRESS]))
 }
 
-fn at_abort(words: &[u64; 20]) -> Next
-    requires { ⌜ getD (now words) 0 0 ≡ 1 ⌝ }
+fn at_abort(words: &[u64; 20], row: u64) -> Next
+    requires { ⌜ (getD (now words) 0 0 ≡ 1) × (getD (now words) 1 0 ≡ row) ⌝ }
     ensures { λ r. ⌜ ((bytes : List ℕ) → r ≡ next-of bytes (transfer-in (now (words .entry)))) ⌝ }
 {
-    next_abort(abort_of(words[ROW], full(words[WORD])))
+    next_abort(abort_of(row, full(words[WORD])))
 }
 
-fn at_read(words: &[u64; 20]) -> Next
-    requires { ⌜ getD (now words) 0 0 ≡ 2 ⌝ }
+fn at_read(words: &[u64; 20], row: u64) -> Next
+    requires { ⌜ (getD (now words) 0 0 ≡ 2) × (getD (now words) 1 0 ≡ row) ⌝ }
     ensures { λ r. ⌜ ((bytes : List ℕ) → r ≡ next-of bytes (transfer-in (now (words .entry)))) ⌝ }
 {
-    let p = read_of(words[ROW], half(words[INDEX]));
+    let p = read_of(row, half(words[INDEX]));
     next_read(p, half(words[LEN]), flag(words[SEND_STOP]), 1 < words[FORM])
 }
 
-fn at_write(words: &[u64; 20], bytes: &[u8]) -> Next
-    requires { ⌜ getD (now words) 0 0 ≡ 3 ⌝ }
+fn at_write(words: &[u64; 20], row: u64, bytes: &[u8]) -> Next
+    requires { ⌜ (getD (now words) 0 0 ≡ 3) × (getD (now words) 1 0 ≡ row) ⌝ }
     ensures { λ r. ⌜ r ≡ next-of (now (bytes .entry)) (transfer-in (now (words .entry))) ⌝ }
 {
-    let p = write_of(words[ROW], who_from(words));
+    let p = write_of(row, who_from(words));
     let at = at_of(words[AT]);
     next_write(p, bytes, at, half(words[LEN]), flag(words[SEND_STOP]))
 }
 
-fn at_round(words: &[u64; 20]) -> Next
-    requires { ⌜ getD (now words) 0 0 ≡ 4 ⌝ }
+fn at_round(words: &[u64; 20], row: u64) -> Next
+    requires { ⌜ (getD (now words) 0 0 ≡ 4) × (getD (now words) 1 0 ≡ row) ⌝ }
     ensures { λ r. ⌜ ((bytes : List ℕ) → r ≡ next-of bytes (transfer-in (now (words .entry)))) ⌝ }
 {
-    let p = queue_of(words[ROW], who_from(words));
+    let p = queue_of(row, who_from(words));
     next_round(p, half(words[LEN]), flag(words[SEND_STOP]), 1 < words[FORM])
 }
 
-fn at_fill(words: &[u64; 20], bytes: &[u8]) -> Next
-    requires { ⌜ getD (now words) 0 0 ≡ 5 ⌝ }
+fn at_fill(words: &[u64; 20], row: u64, bytes: &[u8]) -> Next
+    requires { ⌜ (getD (now words) 0 0 ≡ 5) × (getD (now words) 1 0 ≡ row) ⌝ }
     ensures { λ r. ⌜ r ≡ next-of (now (bytes .entry)) (transfer-in (now (words .entry))) ⌝ }
 {
-    let p = fill_of(words[ROW], half(words[INDEX]), half(words[COUNT]));
+    let p = fill_of(row, half(words[INDEX]), half(words[COUNT]));
     let at = at_of(words[AT]);
     next_fill(p, bytes, at, half(words[LEN]), flag(words[SEND_STOP]))
 }
 
-fn at_wait(words: &[u64; 20]) -> Next
-    requires { ⌜ getD (now words) 0 0 ≡ 6 ⌝ }
+fn at_wait(words: &[u64; 20], row: u64) -> Next
+    requires { ⌜ (getD (now words) 0 0 ≡ 6) × (getD (now words) 1 0 ≡ row) ⌝ }
     ensures { λ r. ⌜ ((bytes : List ℕ) → r ≡ next-of bytes (transfer-in (now (words .entry)))) ⌝ }
 {
-    next_wait(wait_of(words[ROW], full(words[WORD]), who_from(words)))
+    next_wait(wait_of(row, full(words[WORD]), who_from(words)))
 }
 
-fn at_stop(words: &[u64; 20]) -> Next
-    requires { ⌜ getD (now words) 0 0 ≡ 7 ⌝ }
+fn at_stop(words: &[u64; 20], row: u64) -> Next
+    requires { ⌜ (getD (now words) 0 0 ≡ 7) × (getD (now words) 1 0 ≡ row) ⌝ }
     ensures { λ r. ⌜ ((bytes : List ℕ) → r ≡ next-of bytes (transfer-in (now (words .entry)))) ⌝ }
 {
     let who = who_from(words);
     let failure = who.failure;
-    next_stop(stop_of(words[ROW], failure))
+    next_stop(stop_of(row, failure))
 }
 
-// The access that is next, of a transfer that has not ended. `bytes` are the lent write buffer.
-pub fn next_access(words: &[u64; 20], bytes: &[u8]) -> Next
+// The access at the words' group and row, which are handed over beside the words, so that the compiler knows them where a step has just set them.
+pub fn access_at(words: &[u64; 20], group: u64, row: u64, bytes: &[u8]) -> Next
+    requires { ⌜ (getD (now words) 0 0 ≡ group) × (getD (now words) 1 0 ≡ row) ⌝ }
     ensures { λ r. ⌜ r ≡ next-of (now (bytes .entry)) (transfer-in (now (words .entry))) ⌝ }
 {
-    let group = words[GROUP];
     if group == 0 {
-        return at_setup(words);
+        return at_setup(words, row);
     }
     if group == 1 {
-        return at_abort(words);
+        return at_abort(words, row);
     }
     if group == 2 {
-        return at_read(words);
+        return at_read(words, row);
     }
     if group == 3 {
-        return at_write(words, bytes);
+        return at_write(words, row, bytes);
     }
     if group == 4 {
-        return at_round(words);
+        return at_round(words, row);
     }
     if group == 5 {
-        return at_fill(words, bytes);
+        return at_fill(words, row, bytes);
     }
     if group == 6 {
-        return at_wait(words);
+        return at_wait(words, row);
     }
     if group == 7 {
-        return at_stop(words);
+        return at_stop(words, row);
     }
     Next::Finished(Answer::Accepted)
 }

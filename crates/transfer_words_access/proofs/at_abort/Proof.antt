@@ -6,9 +6,6 @@ use Rattle.transfer_words.specs.Words.{place-in, transfer-in}
 use Rattle.transfer_words_access.proofs.at_abort.Statement.{statement}
 use Rattle.transfer_words_access.proofs.at_abort.Tie as tie
 
-element-copy-out-abort-of : tie.Need-element-copy-out-abort-of
-element-copy-out-abort-of c = search needs
-
 element-copy-out-full : tie.Need-element-copy-out-full
 element-copy-out-full c = search needs
 
@@ -23,15 +20,9 @@ next-abort-requires c κs = search needs
 
 returns : tie.Need-returns
 unfolding next-at transfer-in point-at place-in
-returns c = λ bytes. simp (c .before .before .before .before .before .pre, c .before .abort-of .ensures, c .before .before .full .ensures, c .next-abort .ensures)
+returns c = λ bytes. simp (c .before .before .before .before .pre .0, c .before .before .before .before .pre .1, c .before .abort-of .ensures, c .before .before .full .ensures, c .next-abort .ensures)
 
 pub at-abort-spec : {M : Type 1} → statement M
 at-abort-spec =
     tie.close
-    (tie.spec
-    element-copy-out-abort-of
-    element-copy-out-full
-    full-requires
-    abort-of-requires
-    next-abort-requires
-    returns)
+    (tie.spec element-copy-out-full full-requires abort-of-requires next-abort-requires returns)

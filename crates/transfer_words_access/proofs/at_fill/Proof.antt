@@ -6,9 +6,6 @@ use Rattle.transfer_words.specs.Words.{who-in, place-in, transfer-in}
 use Rattle.transfer_words_access.proofs.at_fill.Statement.{statement}
 use Rattle.transfer_words_access.proofs.at_fill.Tie as tie
 
-element-copy-out-fill-of : tie.Need-element-copy-out-fill-of
-element-copy-out-fill-of c = search needs
-
 element-copy-out-half : tie.Need-element-copy-out-half
 element-copy-out-half c = search needs
 
@@ -47,13 +44,12 @@ next-fill-requires c κs = search needs
 
 returns : tie.Need-returns
 unfolding next-at transfer-in point-at place-in who-in
-returns c = simp (c .before .before .before .before .before .before .before .before .before .before .before .before .before .before .pre, c .before .before .before .before .before .before .before .fill-of .ensures, c .before .before .before .before .before .before .before .before .before .before .half .ensures, c .before .before .before .before .before .before .before .before .half2 .ensures, c .before .before .before .before .before .at-of .ensures, c .before .before .before .half3 .ensures, c .before .flag .ensures, c .next-fill .ensures)
+returns c = simp (c .before .before .before .before .before .before .before .before .before .before .before .before .before .pre .0, c .before .before .before .before .before .before .before .before .before .before .before .before .before .pre .1, c .before .before .before .before .before .before .before .fill-of .ensures, c .before .before .before .before .before .before .before .before .before .before .half .ensures, c .before .before .before .before .before .before .before .before .half2 .ensures, c .before .before .before .before .before .at-of .ensures, c .before .before .before .half3 .ensures, c .before .flag .ensures, c .next-fill .ensures)
 
 pub at-fill-spec : {M : Type 1} → statement M
 at-fill-spec =
     tie.close
     (tie.spec
-    element-copy-out-fill-of
     element-copy-out-half
     half-requires
     element-copy-out-half-2

@@ -6,9 +6,6 @@ use Rattle.transfer_words.specs.Words.{who-in, place-in, transfer-in}
 use Rattle.transfer_words_access.proofs.at_read.Statement.{statement}
 use Rattle.transfer_words_access.proofs.at_read.Tie as tie
 
-element-copy-out-read-of : tie.Need-element-copy-out-read-of
-element-copy-out-read-of c = search needs
-
 element-copy-out-half : tie.Need-element-copy-out-half
 element-copy-out-half c = search needs
 
@@ -38,13 +35,12 @@ next-read-requires c κs = search needs
 
 returns : tie.Need-returns
 unfolding next-at transfer-in point-at place-in who-in
-returns c = λ bytes. simp (c .before .before .before .before .before .before .before .before .before .before .pre, c .before .before .before .before .before .before .read-of .ensures, c .before .before .before .before .before .before .before .half .ensures, c .before .before .before .before .half2 .ensures, c .before .before .flag .ensures, c .next-read .ensures)
+returns c = λ bytes. simp (c .before .before .before .before .before .before .before .before .before .pre .0, c .before .before .before .before .before .before .before .before .before .pre .1, c .before .before .before .before .before .before .read-of .ensures, c .before .before .before .before .before .before .before .half .ensures, c .before .before .before .before .half2 .ensures, c .before .before .flag .ensures, c .next-read .ensures)
 
 pub at-read-spec : {M : Type 1} → statement M
 at-read-spec =
     tie.close
     (tie.spec
-    element-copy-out-read-of
     element-copy-out-half
     half-requires
     read-of-requires

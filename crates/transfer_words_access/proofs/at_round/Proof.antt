@@ -6,9 +6,6 @@ use Rattle.transfer_words.specs.Words.{place-in, transfer-in}
 use Rattle.transfer_words_access.proofs.at_round.Statement.{statement}
 use Rattle.transfer_words_access.proofs.at_round.Tie as tie
 
-element-copy-out-queue-of : tie.Need-element-copy-out-queue-of
-element-copy-out-queue-of c = search needs
-
 who-from-requires : tie.Need-who-from-requires
 who-from-requires c κs = search needs
 
@@ -35,13 +32,12 @@ next-round-requires c κs = search needs
 
 returns : tie.Need-returns
 unfolding next-at transfer-in point-at place-in
-returns c = λ bytes. simp (c .before .before .before .before .before .before .before .before .before .pre, c .before .before .before .before .before .before .queue-of .ensures, c .before .before .before .before .before .before .before .who-from .ensures, c .before .before .before .before .half .ensures, c .before .before .flag .ensures, c .next-round .ensures)
+returns c = λ bytes. simp (c .before .before .before .before .before .before .before .before .pre .0, c .before .before .before .before .before .before .before .before .pre .1, c .before .before .before .before .before .before .queue-of .ensures, c .before .before .before .before .before .before .before .who-from .ensures, c .before .before .before .before .half .ensures, c .before .before .flag .ensures, c .next-round .ensures)
 
 pub at-round-spec : {M : Type 1} → statement M
 at-round-spec =
     tie.close
     (tie.spec
-    element-copy-out-queue-of
     who-from-requires
     queue-of-requires
     element-copy-out-half

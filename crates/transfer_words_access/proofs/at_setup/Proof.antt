@@ -6,9 +6,6 @@ use Rattle.transfer_words.specs.Words.{place-in, transfer-in}
 use Rattle.transfer_words_access.proofs.at_setup.Statement.{statement}
 use Rattle.transfer_words_access.proofs.at_setup.Tie as tie
 
-element-copy-out-setup-of : tie.Need-element-copy-out-setup-of
-element-copy-out-setup-of c = search needs
-
 setup-of-requires : tie.Need-setup-of-requires
 setup-of-requires c κs = search needs
 
@@ -23,15 +20,9 @@ next-setup-requires c κs = search needs
 
 returns : tie.Need-returns
 unfolding next-at transfer-in point-at place-in
-returns c = λ bytes. simp (c .before .before .before .before .before .pre, c .before .before .before .setup-of .ensures, c .before .half .ensures, c .next-setup .ensures)
+returns c = λ bytes. simp (c .before .before .before .before .pre .0, c .before .before .before .before .pre .1, c .before .before .before .setup-of .ensures, c .before .half .ensures, c .next-setup .ensures)
 
 pub at-setup-spec : {M : Type 1} → statement M
 at-setup-spec =
     tie.close
-    (tie.spec
-    element-copy-out-setup-of
-    setup-of-requires
-    element-copy-out-half
-    half-requires
-    next-setup-requires
-    returns)
+    (tie.spec setup-of-requires element-copy-out-half half-requires next-setup-requires returns)

@@ -9,9 +9,6 @@ use Rattle.transfer_words_access.proofs.at_stop.Tie as tie
 who-from-requires : tie.Need-who-from-requires
 who-from-requires c κs = search needs
 
-element-copy-out-stop-of : tie.Need-element-copy-out-stop-of
-element-copy-out-stop-of c = search needs
-
 stop-of-requires : tie.Need-stop-of-requires
 stop-of-requires c κs = search needs
 
@@ -20,14 +17,7 @@ next-stop-requires c κs = search needs
 
 returns : tie.Need-returns
 unfolding next-at transfer-in point-at place-in
-returns c = λ bytes. simp (c .before .before .before .before .before .pre, c .before .stop-of .ensures, c .before .before .before .before .who-from .ensures, c .next-stop .ensures)
+returns c = λ bytes. simp (c .before .before .before .before .pre .0, c .before .before .before .before .pre .1, c .before .stop-of .ensures, c .before .before .before .who-from .ensures, c .next-stop .ensures)
 
 pub at-stop-spec : {M : Type 1} → statement M
-at-stop-spec =
-    tie.close
-    (tie.spec
-    who-from-requires
-    element-copy-out-stop-of
-    stop-of-requires
-    next-stop-requires
-    returns)
+at-stop-spec = tie.close (tie.spec who-from-requires stop-of-requires next-stop-requires returns)

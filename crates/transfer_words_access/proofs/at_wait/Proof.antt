@@ -6,9 +6,6 @@ use Rattle.transfer_words.specs.Words.{place-in, transfer-in}
 use Rattle.transfer_words_access.proofs.at_wait.Statement.{statement}
 use Rattle.transfer_words_access.proofs.at_wait.Tie as tie
 
-element-copy-out-wait-of : tie.Need-element-copy-out-wait-of
-element-copy-out-wait-of c = search needs
-
 element-copy-out-full : tie.Need-element-copy-out-full
 element-copy-out-full c = search needs
 
@@ -26,13 +23,12 @@ next-wait-requires c κs = search needs
 
 returns : tie.Need-returns
 unfolding next-at transfer-in point-at place-in
-returns c = λ bytes. simp (c .before .before .before .before .before .before .pre, c .before .wait-of .ensures, c .before .before .who-from .ensures, c .before .before .before .full .ensures, c .next-wait .ensures)
+returns c = λ bytes. simp (c .before .before .before .before .before .pre .0, c .before .before .before .before .before .pre .1, c .before .wait-of .ensures, c .before .before .who-from .ensures, c .before .before .before .full .ensures, c .next-wait .ensures)
 
 pub at-wait-spec : {M : Type 1} → statement M
 at-wait-spec =
     tie.close
     (tie.spec
-    element-copy-out-wait-of
     element-copy-out-full
     full-requires
     who-from-requires

@@ -6,9 +6,6 @@ use Rattle.transfer_words.specs.Words.{place-in, transfer-in}
 use Rattle.transfer_words_access.proofs.at_write.Statement.{statement}
 use Rattle.transfer_words_access.proofs.at_write.Tie as tie
 
-element-copy-out-write-of : tie.Need-element-copy-out-write-of
-element-copy-out-write-of c = search needs
-
 who-from-requires : tie.Need-who-from-requires
 who-from-requires c κs = search needs
 
@@ -38,13 +35,12 @@ next-write-requires c κs = search needs
 
 returns : tie.Need-returns
 unfolding next-at transfer-in point-at place-in
-returns c = simp (c .before .before .before .before .before .before .before .before .before .before .before .pre, c .before .before .before .before .before .before .before .write-of .ensures, c .before .before .before .before .before .before .before .before .who-from .ensures, c .before .before .before .before .before .at-of .ensures, c .before .before .before .half .ensures, c .before .flag .ensures, c .next-write .ensures)
+returns c = simp (c .before .before .before .before .before .before .before .before .before .before .pre .0, c .before .before .before .before .before .before .before .before .before .before .pre .1, c .before .before .before .before .before .before .before .write-of .ensures, c .before .before .before .before .before .before .before .before .who-from .ensures, c .before .before .before .before .before .at-of .ensures, c .before .before .before .half .ensures, c .before .flag .ensures, c .next-write .ensures)
 
 pub at-write-spec : {M : Type 1} → statement M
 at-write-spec =
     tie.close
     (tie.spec
-    element-copy-out-write-of
     who-from-requires
     write-of-requires
     element-copy-out-at-of

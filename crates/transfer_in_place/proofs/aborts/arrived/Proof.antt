@@ -2,7 +2,7 @@
 use borrow.Author.Needs.{needs}
 use Rattle.transfer_in_place.proofs.Made.{made, not-made}
 use native.Mathlib.Omega.{arith}
-use mathlib.Core.Path.{_≡_, sym, _∙_}
+use mathlib.Core.Path.{_≡_, refl, sym, _∙_}
 use Rattle.transfer_in_place.proofs.NoAbort.{to-fetch}
 use Prim.Native.Nat.{_%_, _^_, min}
 use lib.ListN.{getD}
@@ -64,7 +64,7 @@ returns-3 : tie.Need-returns-3
 returns-3 c =
     let least : c .before .smaller .result ≡ min (getD (c .before .before .before .before .before .before .before .before .before .before .before .args .words .now) 5 0 % 2 ^ 16) (getD (c .before .before .before .before .before .before .before .before .before .before .before .args .words .now) 6 0 % 2 ^ 16) = simp (c .before .smaller .ensures, c .before .before .before .before .before .before .before .half .ensures, c .before .before .before .before .before .half2 .ensures) in
     simp (least, c .before .before .before .before .before .half2 .ensures)
-    (made (to-fetch (c .before .before .before .before .before .before .before .before .before .before .before .args .v) (c .before .before .before .before .before .before .before .before .before .before .before .args .words .now) (c .before .before .before .before .before .before .before .before .before .sized .ensures) (c .before .before .before .before .before .before .before .before .before .before .before .pre .0) (c .before .before .before .before .before .before .before .before .before .before .before .pre .1) (c .before .before .before .before .before .before .before .before .before .before .before .pre .2, c .before .before .before .before .before .before .before .before .before .before .before .pre .3, omega arith, λ e. c .if2 .left (least ∙ e))))
+    (made refl refl (to-fetch (c .before .before .before .before .before .before .before .before .before .before .before .args .v) (c .before .before .before .before .before .before .before .before .before .before .before .args .words .now) (c .before .before .before .before .before .before .before .before .before .sized .ensures) (c .before .before .before .before .before .before .before .before .before .before .before .pre .0) (c .before .before .before .before .before .before .before .before .before .before .before .pre .1) (c .before .before .before .before .before .before .before .before .before .before .before .pre .2, c .before .before .before .before .before .before .before .before .before .before .before .pre .3, omega arith, λ e. c .if2 .left (least ∙ e))))
 
 pub arrived-spec : {M : Type 1} → statement M
 arrived-spec =

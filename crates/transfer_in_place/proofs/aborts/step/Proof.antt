@@ -1,4 +1,5 @@
 -- `transfer_in_place::aborts::step` meets its contract.
+use mathlib.Core.Path.{refl}
 use borrow.Author.Needs.{needs}
 use Rattle.transfer_in_place.proofs.Made.{made, not-made}
 use Rattle.transfer_in_place.proofs.NoAbort.{to-level, to-full}
@@ -27,7 +28,7 @@ element-write-words-2 : tie.Need-element-write-words-2
 element-write-words-2 c = search needs
 
 returns-3 : tie.Need-returns-3
-returns-3 c = made (to-level (c .before .before .before .before .before .before .before .args .v) (c .before .before .before .before .before .before .before .args .words .now) (c .before .before .before .before .before .sized .ensures) (c .before .before .before .before .before .before .before .pre) (c .before .before .before .if1 .left) (c .if3 .taken, c .before .before .if2 .left))
+returns-3 c = made refl refl (to-level (c .before .before .before .before .before .before .before .args .v) (c .before .before .before .before .before .before .before .args .words .now) (c .before .before .before .before .before .sized .ensures) (c .before .before .before .before .before .before .before .pre) (c .before .before .before .if1 .left) (c .if3 .taken, c .before .before .if2 .left))
 
 written-requires : tie.Need-written-requires
 written-requires c κs = search needs
@@ -48,7 +49,7 @@ element-write-words-4 : tie.Need-element-write-words-4
 element-write-words-4 c = search needs
 
 returns-6 : tie.Need-returns-6
-returns-6 c = made (to-full (c .before .before .before .before .before .before .before .before .before .before .args .v) (c .before .before .before .before .before .before .before .before .before .before .args .words .now) (c .before .before .before .before .before .before .before .before .sized .ensures) (c .before .before .before .before .before .before .before .before .before .before .pre) (c .before .before .before .before .before .before .if1 .left) (c .if6 .taken, c .before .before .before .before .before .if2 .left))
+returns-6 c = made refl refl (to-full (c .before .before .before .before .before .before .before .before .before .before .args .v) (c .before .before .before .before .before .before .before .before .before .before .args .words .now) (c .before .before .before .before .before .before .before .before .sized .ensures) (c .before .before .before .before .before .before .before .before .before .before .pre) (c .before .before .before .before .before .before .if1 .left) (c .if6 .taken, c .before .before .before .before .before .if2 .left))
 
 returns-7 : tie.Need-returns-7
 returns-7 c = not-made

@@ -1,4 +1,5 @@
 -- `transfer_in_place::aborts::written` meets its contract.
+use mathlib.Core.Path.{refl}
 use borrow.Author.Needs.{needs}
 use Rattle.transfer_in_place.proofs.Made.{made, not-made}
 use Rattle.transfer_in_place.proofs.NoAbort.{to-send}
@@ -24,7 +25,7 @@ element-write-words-2 : tie.Need-element-write-words-2
 element-write-words-2 c = search needs
 
 returns : tie.Need-returns
-returns c = made (to-send (c .before .before .before .before .before .args .v) (c .before .before .before .before .before .args .words .now) (c .before .before .before .sized .ensures) (c .before .before .before .before .before .pre .0) (c .before .before .before .before .before .pre .1) (c .before .before .before .before .before .pre .2, c .before .before .before .before .before .pre .3, c .if1 .taken))
+returns c = made refl refl (to-send (c .before .before .before .before .before .args .v) (c .before .before .before .before .before .args .words .now) (c .before .before .before .sized .ensures) (c .before .before .before .before .before .pre .0) (c .before .before .before .before .before .pre .1) (c .before .before .before .before .before .pre .2, c .before .before .before .before .before .pre .3, c .if1 .taken))
 
 returns-2 : tie.Need-returns-2
 returns-2 c = not-made

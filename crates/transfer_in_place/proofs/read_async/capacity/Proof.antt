@@ -2,7 +2,7 @@
 use borrow.Author.Needs.{needs}
 use Rattle.transfer_in_place.proofs.Made.{made, not-made}
 use native.Mathlib.Omega.{arith}
-use mathlib.Core.Path.{_≡_, sym, _∙_}
+use mathlib.Core.Path.{_≡_, refl, sym, _∙_}
 use Prim.Native.Nat.{_-_, _%_, _^_, min}
 use lib.ListN.{getD}
 use Rattle.regs.specs.Fields.{level}
@@ -40,7 +40,7 @@ element-write-words-2 c = search needs
 returns-2 : tie.Need-returns-2
 returns-2 c =
     let least : c .before .smaller .result ≡ min (getD (c .before .before .before .before .before .before .before .before .args .words .now) 7 0 % 2 ^ 16) (16 - level (c .before .before .before .before .before .before .before .before .args .v)) = simp (c .before .smaller .ensures, c .before .before .half .ensures, c .before .before .before .before .before .level-of .ensures) in
-    made (no-words (c .before .before .before .before .before .before .before .before .args .v) (c .before .before .before .before .before .before .before .before .args .words .now) (c .before .before .before .before .before .before .sized .ensures) (c .before .before .before .before .before .before .before .before .pre .0) (c .before .before .before .before .before .before .before .before .pre .1) (omega arith, sym least ∙ c .if2 .taken))
+    made refl refl (no-words (c .before .before .before .before .before .before .before .before .args .v) (c .before .before .before .before .before .before .before .before .args .words .now) (c .before .before .before .before .before .before .sized .ensures) (c .before .before .before .before .before .before .before .before .pre .0) (c .before .before .before .before .before .before .before .before .pre .1) (omega arith, sym least ∙ c .if2 .taken))
 
 element-write-words-3 : tie.Need-element-write-words-3
 element-write-words-3 c = search needs
@@ -61,7 +61,7 @@ returns-3 : tie.Need-returns-3
 returns-3 c =
     let least : c .before .smaller .result ≡ min (getD (c .before .before .before .before .before .before .before .before .args .words .now) 7 0 % 2 ^ 16) (16 - level (c .before .before .before .before .before .before .before .before .args .v)) = simp (c .before .smaller .ensures, c .before .before .half .ensures, c .before .before .before .before .before .level-of .ensures) in
     simp (least)
-    (made (words-to-queue (c .before .before .before .before .before .before .before .before .args .v) (c .before .before .before .before .before .before .before .before .args .words .now) (c .before .before .before .before .before .before .sized .ensures) (c .before .before .before .before .before .before .before .before .pre .0) (c .before .before .before .before .before .before .before .before .pre .1) (omega arith, λ e. c .if2 .left (least ∙ e))))
+    (made refl refl (words-to-queue (c .before .before .before .before .before .before .before .before .args .v) (c .before .before .before .before .before .before .before .before .args .words .now) (c .before .before .before .before .before .before .sized .ensures) (c .before .before .before .before .before .before .before .before .pre .0) (c .before .before .before .before .before .before .before .before .pre .1) (omega arith, λ e. c .if2 .left (least ∙ e))))
 
 pub capacity-spec : {M : Type 1} → statement M
 capacity-spec =

@@ -1,7 +1,7 @@
 -- `transfer_in_place::read_async::fetched` meets its contract.
 use borrow.Author.Needs.{needs}
 use Rattle.transfer_in_place.proofs.Made.{made, not-made}
-use mathlib.Core.Path.{_≡_, sym, _∙_}
+use mathlib.Core.Path.{_≡_, refl, sym, _∙_}
 use Prim.Native.Nat.{_-_, _%_, _^_, min}
 use lib.ListN.{getD}
 use Rattle.regs.specs.Fields.{level}
@@ -31,7 +31,7 @@ returns : tie.Need-returns
 returns c =
     let left : c .before .less .result ≡ getD (c .before .before .before .before .before .before .args .words .now) 5 0 % 2 ^ 16 - 1 = simp (c .before .less .ensures, c .before .before .half .ensures) in
     simp (left)
-    (made (byte-fetched (c .before .before .before .before .before .before .args .v) (c .before .before .before .before .before .before .args .words .now) (c .before .before .before .before .sized .ensures) (c .before .before .before .before .before .before .pre .0) (c .before .before .before .before .before .before .pre .1) (λ e. c .if1 .taken (left ∙ e))))
+    (made refl refl (byte-fetched (c .before .before .before .before .before .before .args .v) (c .before .before .before .before .before .before .args .words .now) (c .before .before .before .before .sized .ensures) (c .before .before .before .before .before .before .pre .0) (c .before .before .before .before .before .before .pre .1) (λ e. c .if1 .taken (left ∙ e))))
 
 element-copy-out-if2 : tie.Need-element-copy-out-if2
 element-copy-out-if2 c = search needs
@@ -45,7 +45,7 @@ element-write-words-2 c = search needs
 returns-3 : tie.Need-returns-3
 returns-3 c =
     let left : c .before .before .before .less .result ≡ getD (c .before .before .before .before .before .before .before .before .args .words .now) 5 0 % 2 ^ 16 - 1 = simp (c .before .before .before .less .ensures, c .before .before .before .before .half .ensures) in
-    made (last-fetched (c .before .before .before .before .before .before .before .before .args .v) (c .before .before .before .before .before .before .before .before .args .words .now) (c .before .before .before .before .before .before .sized .ensures) (c .before .before .before .before .before .before .before .before .pre .0) (c .before .before .before .before .before .before .before .before .pre .1) (sym left ∙ c .before .before .if1 .left, c .if2 .left))
+    made refl refl (last-fetched (c .before .before .before .before .before .before .before .before .args .v) (c .before .before .before .before .before .before .before .before .args .words .now) (c .before .before .before .before .before .before .sized .ensures) (c .before .before .before .before .before .before .before .before .pre .0) (c .before .before .before .before .before .before .before .before .pre .1) (sym left ∙ c .before .before .if1 .left, c .if2 .left))
 
 pub fetched-spec : {M : Type 1} → statement M
 fetched-spec =

@@ -1,7 +1,7 @@
 -- `transfer_in_place::read_async::queued` meets its contract.
 use borrow.Author.Needs.{needs}
 use Rattle.transfer_in_place.proofs.Made.{made, not-made}
-use mathlib.Core.Path.{_≡_, sym, _∙_}
+use mathlib.Core.Path.{_≡_, refl, sym, _∙_}
 use Prim.Native.Nat.{_-_, _%_, _^_, min}
 use lib.ListN.{getD}
 use Rattle.regs.specs.Fields.{level}
@@ -43,7 +43,7 @@ returns : tie.Need-returns
 returns c =
     let left : c .before .before .before .before .less .result ≡ getD (c .before .before .before .before .before .before .before .before .before .args .words .now) 5 0 % 2 ^ 16 - 1 = simp (c .before .before .before .before .less .ensures, c .before .before .before .before .before .half .ensures) in
     simp (c .before .less2 .ensures, c .before .before .half2 .ensures)
-    (made (last-queued (c .before .before .before .before .before .before .before .before .before .args .v) (c .before .before .before .before .before .before .before .before .before .args .words .now) (c .before .before .before .before .before .before .before .sized .ensures) (c .before .before .before .before .before .before .before .before .before .pre .0) (c .before .before .before .before .before .before .before .before .before .pre .1) (sym left ∙ c .if1 .taken)))
+    (made refl refl (last-queued (c .before .before .before .before .before .before .before .before .before .args .v) (c .before .before .before .before .before .before .before .before .before .args .words .now) (c .before .before .before .before .before .before .before .sized .ensures) (c .before .before .before .before .before .before .before .before .before .pre .0) (c .before .before .before .before .before .before .before .before .before .pre .1) (sym left ∙ c .if1 .taken)))
 
 cast-words-2 : tie.Need-cast-words-2
 cast-words-2 c = search needs
@@ -55,7 +55,7 @@ returns-2 : tie.Need-returns-2
 returns-2 c =
     let left : c .before .before .before .before .less .result ≡ getD (c .before .before .before .before .before .before .before .before .before .args .words .now) 5 0 % 2 ^ 16 - 1 = simp (c .before .before .before .before .less .ensures, c .before .before .before .before .before .half .ensures) in
     simp (left, c .before .less2 .ensures, c .before .before .half2 .ensures)
-    (made (word-queued (c .before .before .before .before .before .before .before .before .before .args .v) (c .before .before .before .before .before .before .before .before .before .args .words .now) (c .before .before .before .before .before .before .before .sized .ensures) (c .before .before .before .before .before .before .before .before .before .pre .0) (c .before .before .before .before .before .before .before .before .before .pre .1) (λ e. c .if1 .left (left ∙ e))))
+    (made refl refl (word-queued (c .before .before .before .before .before .before .before .before .before .args .v) (c .before .before .before .before .before .before .before .before .before .args .words .now) (c .before .before .before .before .before .before .before .sized .ensures) (c .before .before .before .before .before .before .before .before .before .pre .0) (c .before .before .before .before .before .before .before .before .before .pre .1) (λ e. c .if1 .left (left ∙ e))))
 
 pub queued-spec : {M : Type 1} → statement M
 queued-spec =

@@ -1,4 +1,5 @@
 -- `transfer_in_place::read_async::step` meets its contract.
+use mathlib.Core.Path.{refl}
 use borrow.Author.Needs.{needs}
 use Rattle.transfer_in_place.proofs.Made.{made, not-made}
 use Rattle.transfer_in_place.proofs.ReadAsync.{level-read}
@@ -42,7 +43,7 @@ element-write-words-4 : tie.Need-element-write-words-4
 element-write-words-4 c = search needs
 
 returns-3 : tie.Need-returns-3
-returns-3 c = simp (c .level-of .ensures) (made (level-read (c .before .before .before .before .before .before .before .args .v) (c .before .before .before .before .before .before .before .args .words .now) (c .before .before .before .before .before .sized .ensures) (c .before .before .before .before .before .before .before .pre) (c .before .if3 .taken) tt))
+returns-3 c = simp (c .level-of .ensures) (made refl refl (level-read (c .before .before .before .before .before .before .before .args .v) (c .before .before .before .before .before .before .before .args .words .now) (c .before .before .before .before .before .sized .ensures) (c .before .before .before .before .before .before .before .pre) (c .before .if3 .taken) tt))
 
 fetched-requires : tie.Need-fetched-requires
 fetched-requires c κs = search needs

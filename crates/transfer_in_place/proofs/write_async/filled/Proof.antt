@@ -1,7 +1,7 @@
 -- `transfer_in_place::write_async::filled` meets its contract.
 use borrow.Author.Needs.{needs}
 use Rattle.transfer_in_place.proofs.Made.{made, not-made}
-use mathlib.Core.Path.{_≡_, sym, _∙_}
+use mathlib.Core.Path.{_≡_, refl, sym, _∙_}
 use Prim.Native.Nat.{_-_, _%_, _^_, min}
 use lib.ListN.{getD}
 use Rattle.regs.specs.Fields.{level}
@@ -48,7 +48,7 @@ element-write-words-4 c = search needs
 returns-2 : tie.Need-returns-2
 returns-2 c =
     let left : c .before .less .result ≡ getD (c .before .before .before .before .before .before .before .before .before .args .words .now) 5 0 % 2 ^ 16 - 1 = simp (c .before .less .ensures, c .before .before .half .ensures) in
-    made (last-filled (c .before .before .before .before .before .before .before .before .before .args .v) (c .before .before .before .before .before .before .before .before .before .args .words .now) (c .before .before .before .before .before .before .before .sized .ensures) (c .before .before .before .before .before .before .before .before .before .pre .0) (c .before .before .before .before .before .before .before .before .before .pre .1) (c .before .before .before .before .if1 .left, sym left ∙ c .if2 .taken))
+    made refl refl (last-filled (c .before .before .before .before .before .before .before .before .before .args .v) (c .before .before .before .before .before .before .before .before .before .args .words .now) (c .before .before .before .before .before .before .before .sized .ensures) (c .before .before .before .before .before .before .before .before .before .pre .0) (c .before .before .before .before .before .before .before .before .before .pre .1) (c .before .before .before .before .if1 .left, sym left ∙ c .if2 .taken))
 
 element-write-words-5 : tie.Need-element-write-words-5
 element-write-words-5 c = search needs
@@ -63,7 +63,7 @@ returns-3 : tie.Need-returns-3
 returns-3 c =
     let left : c .before .before .less .result ≡ getD (c .before .before .before .before .before .before .before .before .before .before .args .words .now) 5 0 % 2 ^ 16 - 1 = simp (c .before .before .less .ensures, c .before .before .before .half .ensures) in
     simp (left)
-    (made (place-filled (c .before .before .before .before .before .before .before .before .before .before .args .v) (c .before .before .before .before .before .before .before .before .before .before .args .words .now) (c .before .before .before .before .before .before .before .before .sized .ensures) (c .before .before .before .before .before .before .before .before .before .before .pre .0) (c .before .before .before .before .before .before .before .before .before .before .pre .1) (c .if3 .taken, λ e. c .before .if2 .left (left ∙ e))))
+    (made refl refl (place-filled (c .before .before .before .before .before .before .before .before .before .before .args .v) (c .before .before .before .before .before .before .before .before .before .before .args .words .now) (c .before .before .before .before .before .before .before .before .sized .ensures) (c .before .before .before .before .before .before .before .before .before .before .pre .0) (c .before .before .before .before .before .before .before .before .before .before .pre .1) (c .if3 .taken, λ e. c .before .if2 .left (left ∙ e))))
 
 returns-4 : tie.Need-returns-4
 returns-4 c = not-made

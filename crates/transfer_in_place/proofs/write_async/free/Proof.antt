@@ -2,7 +2,7 @@
 use borrow.Author.Needs.{needs}
 use Rattle.transfer_in_place.proofs.Made.{made, not-made}
 use native.Mathlib.Omega.{arith}
-use mathlib.Core.Path.{_≡_, sym, _∙_}
+use mathlib.Core.Path.{_≡_, refl, sym, _∙_}
 use Rattle.transfer_in_place.proofs.WriteAsync.{none-free, some-to-fill}
 use Rattle.transfer_in_place.proofs.write_async.free.Statement.{statement}
 use Rattle.transfer_in_place.proofs.write_async.free.Tie as tie
@@ -23,7 +23,7 @@ element-write-words-2 : tie.Need-element-write-words-2
 element-write-words-2 c = search needs
 
 returns-2 : tie.Need-returns-2
-returns-2 c = made (none-free (c .before .before .before .before .before .args .v) (c .before .before .before .before .before .args .words .now) (c .before .before .before .sized .ensures) (c .before .before .before .before .before .pre .0) (c .before .before .before .before .before .pre .1) (sym (c .before .before .level-of .ensures) ∙ c .if2 .taken))
+returns-2 c = made refl refl (none-free (c .before .before .before .before .before .args .v) (c .before .before .before .before .before .args .words .now) (c .before .before .before .sized .ensures) (c .before .before .before .before .before .pre .0) (c .before .before .before .before .before .pre .1) (sym (c .before .before .level-of .ensures) ∙ c .if2 .taken))
 
 element-copy-out-if3 : tie.Need-element-copy-out-if3
 element-copy-out-if3 c = search needs
@@ -41,7 +41,7 @@ element-write-words-4 : tie.Need-element-write-words-4
 element-write-words-4 c = search needs
 
 returns-3 : tie.Need-returns-3
-returns-3 c = simp (c .before .before .before .before .before .level-of .ensures) (made (some-to-fill (c .before .before .before .before .before .before .before .before .args .v) (c .before .before .before .before .before .before .before .before .args .words .now) (c .before .before .before .before .before .before .sized .ensures) (c .before .before .before .before .before .before .before .before .pre .0) (c .before .before .before .before .before .before .before .before .pre .1) (let ne : c .before .before .before .before .before .level-of .result ≡ 16 → ⊥ = c .before .before .before .if2 .left in omega (arith, ne), c .if3 .taken)))
+returns-3 c = simp (c .before .before .before .before .before .level-of .ensures) (made refl refl (some-to-fill (c .before .before .before .before .before .before .before .before .args .v) (c .before .before .before .before .before .before .before .before .args .words .now) (c .before .before .before .before .before .before .sized .ensures) (c .before .before .before .before .before .before .before .before .pre .0) (c .before .before .before .before .before .before .before .before .pre .1) (let ne : c .before .before .before .before .before .level-of .result ≡ 16 → ⊥ = c .before .before .before .if2 .left in omega (arith, ne), c .if3 .taken)))
 
 returns-4 : tie.Need-returns-4
 returns-4 c = not-made

@@ -1,4 +1,5 @@
 -- `transfer_in_place::write_async::step` meets its contract.
+use mathlib.Core.Path.{refl}
 use borrow.Author.Needs.{needs}
 use Rattle.transfer_in_place.proofs.Made.{made, not-made}
 use native.Mathlib.Omega.{arith}
@@ -31,7 +32,7 @@ element-write-words : tie.Need-element-write-words
 element-write-words c = search needs
 
 returns-3 : tie.Need-returns-3
-returns-3 c = made (to-free (c .before .before .before .before .before .before .before .before .args .v) (c .before .before .before .before .before .before .before .before .args .words .now) (c .before .before .before .before .before .before .sized .ensures) (c .before .before .before .before .before .before .before .before .pre) (c .before .before .if3 .taken) (omega arith))
+returns-3 c = made refl refl (to-free (c .before .before .before .before .before .before .before .before .args .v) (c .before .before .before .before .before .before .before .before .args .words .now) (c .before .before .before .before .before .before .sized .ensures) (c .before .before .before .before .before .before .before .before .pre) (c .before .before .if3 .taken) (omega arith))
 
 returns-4 : tie.Need-returns-4
 returns-4 c = not-made

@@ -1,7 +1,7 @@
 -- `transfer_in_place::write_blocking::step` meets its contract.
 use borrow.Author.Needs.{needs}
 use Rattle.transfer_in_place.proofs.Made.{made, not-made}
-use mathlib.Core.Path.{_≡_, sym, _∙_}
+use mathlib.Core.Path.{_≡_, refl, sym, _∙_}
 use Rattle.transfer_in_place.proofs.WriteBlocking.{send, empty, waiting}
 use Rattle.transfer_in_place.proofs.write_blocking.step.Statement.{statement}
 use Rattle.transfer_in_place.proofs.write_blocking.step.Tie as tie
@@ -16,7 +16,7 @@ element-write-words : tie.Need-element-write-words
 element-write-words c = search needs
 
 returns : tie.Need-returns
-returns c = made (send (c .before .before .before .before .args .v) (c .before .before .before .before .args .words .now) (c .before .before .sized .ensures) (c .before .before .before .before .pre) (c .if1 .taken) tt)
+returns c = made refl refl (send (c .before .before .before .before .args .v) (c .before .before .before .before .args .words .now) (c .before .before .sized .ensures) (c .before .before .before .before .pre) (c .if1 .taken) tt)
 
 has-tx-empty-requires : tie.Need-has-tx-empty-requires
 has-tx-empty-requires c κs = search needs
@@ -31,10 +31,10 @@ element-write-words-4 : tie.Need-element-write-words-4
 element-write-words-4 c = search needs
 
 returns-2 : tie.Need-returns-2
-returns-2 c = made (empty (c .before .before .before .before .before .before .before .args .v) (c .before .before .before .before .before .before .before .args .words .now) (c .before .before .before .before .before .sized .ensures) (c .before .before .before .before .before .before .before .pre) (c .before .before .if2 .taken) (sym (c .before .has-tx-empty .ensures) ∙ c .if3 .taken))
+returns-2 c = made refl refl (empty (c .before .before .before .before .before .before .before .args .v) (c .before .before .before .before .before .before .before .args .words .now) (c .before .before .before .before .before .sized .ensures) (c .before .before .before .before .before .before .before .pre) (c .before .before .if2 .taken) (sym (c .before .has-tx-empty .ensures) ∙ c .if3 .taken))
 
 returns-3 : tie.Need-returns-3
-returns-3 c = made (waiting (c .before .before .before .before .before .before .before .args .v) (c .before .before .before .before .before .before .before .args .words .now) (c .before .before .before .before .before .sized .ensures) (c .before .before .before .before .before .before .before .pre) (c .before .before .if2 .taken) (sym (c .before .has-tx-empty .ensures) ∙ c .if3 .left))
+returns-3 c = made refl refl (waiting (c .before .before .before .before .before .before .before .args .v) (c .before .before .before .before .before .before .before .args .words .now) (c .before .before .before .before .before .sized .ensures) (c .before .before .before .before .before .before .before .pre) (c .before .before .if2 .taken) (sym (c .before .has-tx-empty .ensures) ∙ c .if3 .left))
 
 returns-4 : tie.Need-returns-4
 returns-4 c = not-made

@@ -1,14 +1,11 @@
--- `transfer_words_access::next_access` meets its contract.
+-- `transfer_words_access::access_at` meets its contract.
 use borrow.Author.Needs.{needs}
 use borrow.Author.Tests.{ne-eqb}
 use Rattle.transfer.specs.Machine.{next-at}
 use Rattle.transfer_numbers.specs.Numbers.{point-at}
 use Rattle.transfer_words.specs.Words.{place-in, transfer-in}
-use Rattle.transfer_words_access.proofs.next_access.Statement.{statement}
-use Rattle.transfer_words_access.proofs.next_access.Tie as tie
-
-element-copy-out-group : tie.Need-element-copy-out-group
-element-copy-out-group c = search needs
+use Rattle.transfer_words_access.proofs.access_at.Statement.{statement}
+use Rattle.transfer_words_access.proofs.access_at.Tie as tie
 
 at-setup-requires : tie.Need-at-setup-requires
 at-setup-requires c κs = search needs
@@ -60,13 +57,12 @@ returns-8 c = c .at-stop .ensures _
 
 returns-9 : tie.Need-returns-9
 unfolding next-at transfer-in point-at place-in
-returns-9 c = simp (ne-eqb _ _ (c .before .before .before .before .before .before .before .if1 .left), ne-eqb _ _ (c .before .before .before .before .before .before .if2 .left), ne-eqb _ _ (c .before .before .before .before .before .if3 .left), ne-eqb _ _ (c .before .before .before .before .if4 .left), ne-eqb _ _ (c .before .before .before .if5 .left), ne-eqb _ _ (c .before .before .if6 .left), ne-eqb _ _ (c .before .if7 .left), ne-eqb _ _ (c .if8 .left))
+returns-9 c = simp (c .before .before .before .before .before .before .before .before .before .pre .0, ne-eqb _ _ (c .before .before .before .before .before .before .before .if1 .left), ne-eqb _ _ (c .before .before .before .before .before .before .if2 .left), ne-eqb _ _ (c .before .before .before .before .before .if3 .left), ne-eqb _ _ (c .before .before .before .before .if4 .left), ne-eqb _ _ (c .before .before .before .if5 .left), ne-eqb _ _ (c .before .before .if6 .left), ne-eqb _ _ (c .before .if7 .left), ne-eqb _ _ (c .if8 .left))
 
-pub next-access-spec : {M : Type 1} → statement M
-next-access-spec =
+pub access-at-spec : {M : Type 1} → statement M
+access-at-spec =
     tie.close
     (tie.spec
-    element-copy-out-group
     at-setup-requires
     returns
     at-abort-requires
