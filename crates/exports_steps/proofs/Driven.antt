@@ -1,12 +1,12 @@
 -- Driving what is held is driving the transfer: over any readings, the accesses and the read buffer are those of the transfer's own steps.
 use Prim.Native.Nat.{ℕ}
-use mathlib.Core.Path.{_≡_, refl, sym, _∙_, ap}
+use mathlib.Core.Path.{_≡_, refl}
 use mathlib.Core.List.{List, [], _∷_}
 use mathlib.Core.Logic.{⊎-elim}
 use Rattle.regs.specs.Machine.{stored-in}
 use Rattle.transfer.specs.Machine.{next-at, next-of, store-at, store-of, step-of, advance-of}
 use Rattle.transfer.specs.declared.Transfer.{Transfer}
-use Rattle.transfer_numbers.specs.Held.{Held, Live, Over, held-in, held-of, advanced-held, store-held}
+use Rattle.transfer_numbers.specs.Held.{Held, held-in, held-of, advanced-held, store-held}
 use Rattle.transfer_numbers.proofs.Kept.{Going, Ended, point-kept}
 use Rattle.exports_steps.specs.declared.Access.{Access}
 use Rattle.exports_steps.specs.Steps.{access-of, access-held}

@@ -1,7 +1,7 @@
 -- A step that was made, and one that was not.
 use Prim.Native.Nat.{ℕ, _-_, _<_, _≤_, _/_, _%_}
 use mathlib.Core.Path.{_≡_, refl}
-use mathlib.Core.Bool.{true, false}
+use mathlib.Core.Bool.{false}
 use mathlib.Core.List.{List}
 use native.Mathlib.Nat.{mod-eq-of-lt}
 use native.Mathlib.Omega.{arith}

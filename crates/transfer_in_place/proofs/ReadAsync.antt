@@ -1,22 +1,21 @@
 -- Where an async read leads, in words.
-use Prim.Native.Nat.{ℕ, _+_, _-_, _<_, _≤_, _%_, _^_, min}
-use mathlib.Core.Path.{_≡_, refl, ap, _∙_}
-use mathlib.Core.Bool.{Bool, true, false, _&&_}
+use Prim.Native.Nat.{ℕ, _-_, _≤_, _%_, _^_, min}
+use mathlib.Core.Path.{_≡_, refl}
 use mathlib.Core.List.{List}
-use native.Mathlib.Nat.{mod-eq-of-lt, min-le-left, min-le-right}
+use native.Mathlib.Nat.{mod-eq-of-lt, min-le-left}
 use native.Mathlib.Omega.{arith}
-use borrow.Author.Tests.{lt-ltb, le-ltb, eq-eqb, ne-eqb}
-use lib.Dec.{eqb, ltb}
+use borrow.Author.Tests.{le-ltb, ne-eqb}
 use lib.ListN.{length, getD, set}
-use Rattle.regs.specs.Fields.{level, tx-empty}
+use Rattle.regs.specs.Fields.{level}
 use Rattle.transfer.specs.Machine.{places, batch-step, queued, next-turn, fetching, step-round, step-of}
 use Rattle.transfer_numbers.specs.Held.{held-in}
 use Rattle.transfer_numbers.specs.Numbers.{round-at, abort-at, caller-at, queue-at, point-at}
-use Rattle.transfer_words.specs.Words.{half-of, who-in, place-in, transfer-in, held-at}
-use Rattle.transfer_words.proofs.Cells.{Cells, each}
-use Rattle.transfer_in_place.proofs.Made.{Law, Leads, small, not-over, some-free}
+use Rattle.transfer_words.specs.Words.{who-in, place-in, transfer-in, held-at}
+use Rattle.transfer_words.proofs.Cells.{each}
+use Rattle.transfer_in_place.proofs.Made.{Law, small}
 
 module _ (v : ℕ) where
+  -- `Capacity` to `Level`: nothing is to be queued
   abbrev no-words-if : List ℕ → Type 0
   no-words-if s = (level v ≤ 16) × (min (getD s 7 0 % 2 ^ 16) (16 - level v) ≡ 0)
 
@@ -27,6 +26,7 @@ module _ (v : ℕ) where
   unfolding held-at transfer-in place-in point-at step-of held-in who-in round-at queue-at step-round batch-step places queued
   no-words = each (Law 4 0 34 v no-words-if no-words-to) (λ a g r h. ((λ kinds lengths. simp (g, r, le-ltb 16 (level v) (h .0), h .1)), g, refl))
 
+  -- `Capacity` to `Queue`
   abbrev words-to-queue-if : List ℕ → Type 0
   words-to-queue-if s = (level v ≤ 16) × (min (getD s 7 0 % 2 ^ 16) (16 - level v) ≡ 0 → ⊥)
 
@@ -35,8 +35,16 @@ module _ (v : ℕ) where
 
   pub words-to-queue : (s : List ℕ) → length s ≡ 20 → Law 4 0 33 v words-to-queue-if words-to-queue-to s
   unfolding held-at transfer-in place-in point-at step-of held-in who-in round-at queue-at step-round batch-step places queued
-  words-to-queue = each (Law 4 0 33 v words-to-queue-if words-to-queue-to) (λ a g r h. ((λ kinds lengths. let q : ℕ = a .w7 % 2 ^ 16 in let n : ℕ = min q (16 - level v) in simp (g, r, le-ltb 16 (level v) (h .0), ne-eqb n 0 (h .1), small n (a .w7) (min-le-left q (16 - level v)))), g, refl))
+  words-to-queue = each (Law 4 0 33 v words-to-queue-if words-to-queue-to) (λ a g r h. (
+    (λ kinds lengths.
+        let q : ℕ = a .w7 % 2 ^ 16 in
+        let n : ℕ = min q (16 - level v) in
+        simp (g, r, le-ltb 16 (level v) (h .0), ne-eqb n 0 (h .1), small n (a .w7) (min-le-left q (16 - level v)))),
+    g,
+    refl,
+  ))
 
+  -- `Queue` to `Level`
   abbrev last-queued-if : List ℕ → Type 0
   last-queued-if s = getD s 5 0 % 2 ^ 16 - 1 ≡ 0
 
@@ -45,8 +53,15 @@ module _ (v : ℕ) where
 
   pub last-queued : (s : List ℕ) → length s ≡ 20 → Law 4 1 34 v last-queued-if last-queued-to s
   unfolding held-at transfer-in place-in point-at step-of held-in who-in round-at queue-at step-round queued
-  last-queued = each (Law 4 1 34 v last-queued-if last-queued-to) (λ a g r h. ((λ kinds lengths. let q : ℕ = a .w7 % 2 ^ 16 in simp (g, r, h, small (q - 1) (a .w7) (omega arith))), g, refl))
+  last-queued = each (Law 4 1 34 v last-queued-if last-queued-to) (λ a g r h. (
+    (λ kinds lengths.
+        let q : ℕ = a .w7 % 2 ^ 16 in
+        simp (g, r, h, small (q - 1) (a .w7) (omega arith))),
+    g,
+    refl,
+  ))
 
+  -- `Queue` to the next word
   abbrev word-queued-if : List ℕ → Type 0
   word-queued-if s = getD s 5 0 % 2 ^ 16 - 1 ≡ 0 → ⊥
 
@@ -55,8 +70,16 @@ module _ (v : ℕ) where
 
   pub word-queued : (s : List ℕ) → length s ≡ 20 → Law 4 1 33 v word-queued-if word-queued-to s
   unfolding held-at transfer-in place-in point-at step-of held-in who-in round-at queue-at step-round queued
-  word-queued = each (Law 4 1 33 v word-queued-if word-queued-to) (λ a g r h. ((λ kinds lengths. let q : ℕ = a .w7 % 2 ^ 16 in let n : ℕ = a .w5 % 2 ^ 16 in simp (g, r, ne-eqb (n - 1) 0 h, small (q - 1) (a .w7) (omega arith), small (n - 1) (a .w5) (omega arith))), g, r))
+  word-queued = each (Law 4 1 33 v word-queued-if word-queued-to) (λ a g r h. (
+    (λ kinds lengths.
+        let q : ℕ = a .w7 % 2 ^ 16 in
+        let n : ℕ = a .w5 % 2 ^ 16 in
+        simp (g, r, ne-eqb (n - 1) 0 h, small (q - 1) (a .w7) (omega arith), small (n - 1) (a .w5) (omega arith))),
+    g,
+    r,
+  ))
 
+  -- `Level` to a look for an abort
   abbrev level-read-if : List ℕ → Type 0
   level-read-if s = Unit {0}
 
@@ -67,6 +90,7 @@ module _ (v : ℕ) where
   unfolding held-at transfer-in place-in point-at step-of held-in who-in round-at queue-at step-round abort-at caller-at
   level-read = each (Law 4 2 8 v level-read-if level-read-to) (λ a g r h. ((λ kinds lengths. simp (g, r, mod-eq-of-lt {n = level v} {m = 2 ^ 16} (omega arith))), refl, refl))
 
+  -- `Fetch` to the next byte
   abbrev byte-fetched-if : List ℕ → Type 0
   byte-fetched-if s = getD s 5 0 % 2 ^ 16 - 1 ≡ 0 → ⊥
 
@@ -75,8 +99,15 @@ module _ (v : ℕ) where
 
   pub byte-fetched : (s : List ℕ) → length s ≡ 20 → Law 4 3 35 v byte-fetched-if byte-fetched-to s
   unfolding held-at transfer-in place-in point-at step-of held-in who-in round-at queue-at step-round fetching
-  byte-fetched = each (Law 4 3 35 v byte-fetched-if byte-fetched-to) (λ a g r h. ((λ kinds lengths. let n : ℕ = a .w5 % 2 ^ 16 in simp (g, r, ne-eqb (n - 1) 0 h, small (n - 1) (a .w5) (omega arith))), g, r))
+  byte-fetched = each (Law 4 3 35 v byte-fetched-if byte-fetched-to) (λ a g r h. (
+    (λ kinds lengths.
+        let n : ℕ = a .w5 % 2 ^ 16 in
+        simp (g, r, ne-eqb (n - 1) 0 h, small (n - 1) (a .w5) (omega arith))),
+    g,
+    r,
+  ))
 
+  -- `Fetch` to the next round, where bytes remain
   abbrev last-fetched-if : List ℕ → Type 0
   last-fetched-if s = (getD s 5 0 % 2 ^ 16 - 1 ≡ 0) × (getD s 6 0 % 2 ^ 16 ≡ 0 → ⊥)
 

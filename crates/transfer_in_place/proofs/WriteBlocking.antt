@@ -1,22 +1,19 @@
 -- Where a blocking write leads, in words.
-use Prim.Native.Nat.{ℕ, _+_, _-_, _<_, _≤_, _%_, _^_, min}
-use mathlib.Core.Path.{_≡_, refl, ap, _∙_}
-use mathlib.Core.Bool.{Bool, true, false, _&&_}
+use Prim.Native.Nat.{ℕ}
+use mathlib.Core.Path.{_≡_, refl}
+use mathlib.Core.Bool.{true, false}
 use mathlib.Core.List.{List}
-use native.Mathlib.Nat.{mod-eq-of-lt, min-le-left, min-le-right}
-use native.Mathlib.Omega.{arith}
-use borrow.Author.Tests.{lt-ltb, le-ltb, eq-eqb, ne-eqb}
-use lib.Dec.{eqb, ltb}
-use lib.ListN.{length, getD, set}
-use Rattle.regs.specs.Fields.{level, tx-empty}
+use lib.ListN.{length, set}
+use Rattle.regs.specs.Fields.{tx-empty}
 use Rattle.transfer.specs.Machine.{step-write, step-of}
 use Rattle.transfer_numbers.specs.Held.{held-in}
 use Rattle.transfer_numbers.specs.Numbers.{write-at, abort-at, caller-at, point-at}
-use Rattle.transfer_words.specs.Words.{half-of, who-in, place-in, transfer-in, held-at}
-use Rattle.transfer_words.proofs.Cells.{Cells, each}
-use Rattle.transfer_in_place.proofs.Made.{Law, Leads, small, not-over, some-free}
+use Rattle.transfer_words.specs.Words.{who-in, place-in, transfer-in, held-at}
+use Rattle.transfer_words.proofs.Cells.{each}
+use Rattle.transfer_in_place.proofs.Made.{Law}
 
 module _ (v : ℕ) where
+  -- `Send` to `Empty`
   abbrev send-if : List ℕ → Type 0
   send-if s = Unit {0}
 
@@ -27,6 +24,7 @@ module _ (v : ℕ) where
   unfolding held-at transfer-in place-in point-at step-of held-in who-in write-at step-write
   send = each (Law 3 0 25 v send-if send-to) (λ a g r h. ((λ kinds lengths. simp (g, r)), g, refl))
 
+  -- `Empty` to a look for an abort: the FIFO is empty
   abbrev empty-if : List ℕ → Type 0
   empty-if s = tx-empty v ≡ true
 
@@ -37,6 +35,7 @@ module _ (v : ℕ) where
   unfolding held-at transfer-in place-in point-at step-of held-in who-in write-at step-write abort-at caller-at
   empty = each (Law 3 1 8 v empty-if empty-to) (λ a g r h. ((λ kinds lengths. simp (g, r, h)), refl, refl))
 
+  -- `Empty` again
   abbrev waiting-if : List ℕ → Type 0
   waiting-if s = tx-empty v ≡ false
 

@@ -6,7 +6,6 @@ mod write_async; // by places in the FIFO
 mod write_blocking; // byte by byte
 
 use transfer_words::GROUP;
-ghost use lib.ListN.{getD};
 ghost use Rattle.transfer_in_place.specs.InPlace.{InPlace};
 
 // The points that these steps lead to: 8 times the group, and the row.

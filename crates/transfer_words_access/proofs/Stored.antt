@@ -1,6 +1,6 @@
 -- Bytes are stored in reads alone, so that the group need not be looked at to find an end.
 use Prim.Native.Nat.{ℕ, _<_}
-use mathlib.Core.Path.{_≡_, refl, sym}
+use mathlib.Core.Path.{_≡_, refl}
 use mathlib.Core.Bool.{Bool, true, false}
 use mathlib.Core.List.{List}
 use native.Mathlib.Omega.{arith}
@@ -12,7 +12,7 @@ use Rattle.regs.specs.declared.access.Store.the-variants.{Nothing}
 use Rattle.transfer.specs.Machine.{store-at, store-of}
 use Rattle.transfer.specs.declared.Point.{Point}
 use Rattle.transfer.specs.declared.Transfer.{Transfer}
-use Rattle.transfer_numbers.specs.Held.{Held, Live, Over, store-held}
+use Rattle.transfer_numbers.specs.Held.{Live, Over, store-held}
 use Rattle.transfer_numbers.specs.Numbers.{point-at}
 use Rattle.transfer_numbers.specs.declared.Place.{Place}
 use Rattle.transfer_words.specs.Words.{place-in, transfer-in, held-at}

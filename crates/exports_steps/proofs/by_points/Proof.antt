@@ -1,6 +1,6 @@
 -- `exports_steps::by_points` meets its contract.
 use borrow.Author.Needs.{needs}
-use mathlib.Core.Path.{sym, _∙_, ap}
+use mathlib.Core.Path.{sym, _∙_}
 use Rattle.transfer_words.specs.Words.{held-at}
 use Rattle.exports_steps.proofs.by_points.Statement.{statement}
 use Rattle.exports_steps.proofs.by_points.Tie as tie

@@ -1,6 +1,6 @@
 -- `exports_steps::celadonsaw_start` meets its contract.
 use borrow.Author.Needs.{needs}
-use mathlib.Core.Path.{sym, _∙_, ap}
+use mathlib.Core.Path.{sym, _∙_}
 use Rattle.exports_steps.specs.Steps.{first-of}
 use Rattle.exports_steps.proofs.celadonsaw_start.Statement.{statement}
 use Rattle.exports_steps.proofs.celadonsaw_start.Tie as tie

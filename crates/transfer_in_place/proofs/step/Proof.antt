@@ -1,6 +1,6 @@
 -- `transfer_in_place::step` meets its contract.
 use borrow.Author.Needs.{needs}
-use Rattle.transfer_in_place.proofs.Made.{made, not-made}
+use Rattle.transfer_in_place.proofs.Made.{not-made}
 use Rattle.transfer_in_place.proofs.step.Statement.{statement}
 use Rattle.transfer_in_place.proofs.step.Tie as tie
 

@@ -2,7 +2,7 @@
 use borrow.Author.Needs.{needs}
 use Rattle.transfer_in_place.proofs.Made.{made, not-made}
 use native.Mathlib.Omega.{arith}
-use mathlib.Core.Path.{_≡_, refl, sym, _∙_}
+use mathlib.Core.Path.{_≡_, refl, _∙_}
 use Rattle.transfer_in_place.proofs.NoAbort.{to-fetch}
 use Prim.Native.Nat.{_%_, _^_, min}
 use lib.ListN.{getD}

@@ -2,9 +2,8 @@
 use borrow.Author.Needs.{needs}
 use Rattle.transfer_in_place.proofs.Made.{made, not-made}
 use mathlib.Core.Path.{_≡_, refl, sym, _∙_}
-use Prim.Native.Nat.{_-_, _%_, _^_, min}
+use Prim.Native.Nat.{_-_, _%_, _^_}
 use lib.ListN.{getD}
-use Rattle.regs.specs.Fields.{level}
 use Rattle.transfer_in_place.proofs.ReadAsync.{byte-fetched, last-fetched}
 use Rattle.transfer_in_place.proofs.read_async.fetched.Statement.{statement}
 use Rattle.transfer_in_place.proofs.read_async.fetched.Tie as tie

@@ -1,10 +1,9 @@
 -- `transfer_in_place::read_async::queued` meets its contract.
 use borrow.Author.Needs.{needs}
-use Rattle.transfer_in_place.proofs.Made.{made, not-made}
+use Rattle.transfer_in_place.proofs.Made.{made}
 use mathlib.Core.Path.{_≡_, refl, sym, _∙_}
-use Prim.Native.Nat.{_-_, _%_, _^_, min}
+use Prim.Native.Nat.{_-_, _%_, _^_}
 use lib.ListN.{getD}
-use Rattle.regs.specs.Fields.{level}
 use Rattle.transfer_in_place.proofs.ReadAsync.{last-queued, word-queued}
 use Rattle.transfer_in_place.proofs.read_async.queued.Statement.{statement}
 use Rattle.transfer_in_place.proofs.read_async.queued.Tie as tie

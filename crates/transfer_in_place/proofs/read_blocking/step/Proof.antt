@@ -2,7 +2,7 @@
 use borrow.Author.Needs.{needs}
 use Rattle.transfer_in_place.proofs.Made.{made, not-made}
 use native.Mathlib.Omega.{arith}
-use mathlib.Core.Path.{_≡_, refl, sym, _∙_}
+use mathlib.Core.Path.{refl, sym, _∙_}
 use Rattle.transfer_in_place.proofs.ReadBlocking.{room, ask, empty, level-read, take}
 use Rattle.transfer_in_place.proofs.read_blocking.step.Statement.{statement}
 use Rattle.transfer_in_place.proofs.read_blocking.step.Tie as tie

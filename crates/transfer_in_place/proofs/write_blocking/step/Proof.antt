@@ -1,7 +1,7 @@
 -- `transfer_in_place::write_blocking::step` meets its contract.
 use borrow.Author.Needs.{needs}
 use Rattle.transfer_in_place.proofs.Made.{made, not-made}
-use mathlib.Core.Path.{_≡_, refl, sym, _∙_}
+use mathlib.Core.Path.{refl, sym, _∙_}
 use Rattle.transfer_in_place.proofs.WriteBlocking.{send, empty, waiting}
 use Rattle.transfer_in_place.proofs.write_blocking.step.Statement.{statement}
 use Rattle.transfer_in_place.proofs.write_blocking.step.Tie as tie
