@@ -1,12 +1,13 @@
--- Driving what is held is driving the transfer: over any readings, the accesses and the read buffer are those of the transfer's own steps.
+-- Driving words is driving the transfer: over any readings, the accesses and the read buffer are those of the transfer's own steps.
 use Prim.Native.Nat.{ℕ}
-use mathlib.Core.Path.{_≡_, refl}
+use mathlib.Core.Path.{_≡_, refl, _∙_}
 use mathlib.Core.List.{List, [], _∷_}
 use mathlib.Core.Logic.{⊎-elim}
 use Rattle.regs.specs.Machine.{stored-in}
 use Rattle.transfer.specs.Machine.{next-at, next-of, store-at, store-of, step-of, advance-of}
 use Rattle.transfer.specs.declared.Transfer.{Transfer}
-use Rattle.transfer_numbers.specs.Held.{Held, held-in, held-of, advanced-held, store-held}
+use Rattle.transfer_numbers.specs.Held.{held-in, held-of, advanced-held, store-held}
+use Rattle.transfer_words.specs.Words.{held-at}
 use Rattle.transfer_numbers.proofs.Kept.{Going, Ended, point-kept}
 use Rattle.exports_steps.specs.declared.Access.{Access}
 use Rattle.exports_steps.specs.Steps.{access-of, access-held}
@@ -54,15 +55,24 @@ abbrev pub after : Access → Driven → Driven
 after a d = record { accesses = a ∷ d .accesses; buffer = d .buffer }
 
 module _ (kinds lengths bytes : List ℕ) where
-  pub by-held : Held → List ℕ → List ℕ → Driven
-  by-held h buffer [] = record { accesses = access-held bytes h ∷ []; buffer = buffer }
-  by-held h buffer (v ∷ vs) = after (access-held bytes h) (by-held (advanced-held kinds lengths h v) (stored-in buffer (store-held h v)) vs)
-
+  -- a transfer driven by its own steps
   pub by-transfer : Transfer → List ℕ → List ℕ → Driven
   by-transfer t buffer [] = record { accesses = access-of (next-of bytes t) ∷ []; buffer = buffer }
   by-transfer t buffer (v ∷ vs) = after (access-of (next-of bytes t)) (by-transfer (advance-of kinds lengths t v) (stored-in buffer (store-of t v)) vs)
 
-  pub driven : (t : Transfer) (buffer readings : List ℕ) → by-held (held-of t) buffer readings ≡ by-transfer t buffer readings
-  unfolding by-held by-transfer
-  driven t buffer [] = simp (same-access)
-  driven t buffer (v ∷ vs) = simp (same-access, same-advance, same-store, driven (advance-of kinds lengths t v) (stored-in buffer (store-of t v)) vs)
+  -- words and buffer from step to step, as the contracts of `celadonsaw_next_access` and `celadonsaw_step` have them
+  pub data By-words : List ℕ → List ℕ → List ℕ → Driven → Type 0 where
+    last : {words buffer : List ℕ} → By-words words buffer [] (record { accesses = access-held bytes (held-at words) ∷ []; buffer = buffer })
+    step :
+        {words buffer after-words after-buffer readings : List ℕ} {v : ℕ} {d : Driven} → held-at after-words ≡ advanced-held kinds lengths (held-at words) v →
+        after-buffer ≡ stored-in buffer (store-held (held-at words) v) →
+        By-words after-words after-buffer readings d →
+        By-words words buffer (v ∷ readings) (after (access-held bytes (held-at words)) d)
+
+  pub driven : (t : Transfer) {words buffer readings : List ℕ} {d : Driven} → held-at words ≡ held-of t → By-words words buffer readings d → d ≡ by-transfer t buffer readings
+  unfolding by-transfer
+  driven t h last = simp (h, same-access)
+  driven t {buffer = buffer} h (step {v = v} moved stored rest) =
+      let there : held-at _ ≡ held-of (advance-of kinds lengths t v) = moved ∙ simp (h, same-advance) in
+      let kept : _ ≡ stored-in buffer (store-of t v) = stored ∙ simp (h, same-store) in
+      simp (h, same-access, driven (advance-of kinds lengths t v) there rest, kept)
