@@ -89,12 +89,12 @@ static void main_loop(const char *name, bool queued, uint16_t address, const uin
     const uint8_t *write, size_t write_len, uint8_t *read, size_t read_len) {
     int other_work = 0;
     printf("-- %s\n", name);
-    celadonsaw_machine machine = celadonsaw_start(queued, true, address, kinds, count, lengths, count, write_len, read_len);
-    celadonsaw_access access = celadonsaw_next_access(machine, write, write_len);
+    celadonsaw_transfer transfer;
+    celadonsaw_start(&transfer, queued, true, address, kinds, count, lengths, count, write_len, read_len);
+    celadonsaw_access access = celadonsaw_next_access(&transfer, write, write_len);
     while (access.kind != 0) {
         uint32_t reading = perform(access);
-        machine = celadonsaw_advance(machine, reading, kinds, count, lengths, count, read, read_len);
-        access = celadonsaw_next_access(machine, write, write_len);
+        access = celadonsaw_step(&transfer, reading, kinds, count, lengths, count, write, write_len, read, read_len);
         other_work++;
     }
     if (access.number == 0)

@@ -115,43 +115,22 @@ celadonsaw_slave_report celadonsaw_slave_respond_and_fill(celadonsaw_slave slave
 
 /* ---- a master transfer, one access at a time ----
  *
- *     celadonsaw_machine m = celadonsaw_start(...);
- *     for (;;) {
- *         celadonsaw_access a = celadonsaw_next_access(m, write, write_len);
- *         if (a.kind == 0) break;                          -- a.number, a.value: the answer
+ *     celadonsaw_transfer t;
+ *     celadonsaw_start(&t, ...);
+ *     celadonsaw_access a = celadonsaw_next_access(&t, write, write_len);
+ *     while (a.kind != 0) {
  *         uint32_t v = perform(a);                         -- 0 where nothing is read
- *         m = celadonsaw_advance(m, v, ...);
- *     }
+ *         a = celadonsaw_step(&t, v, ...);
+ *     }                                                    -- a.number, a.value: the answer
  *
  * makes the accesses of the call, in order, and leaves its buffer and its answer. 18 and 19 are not told: readings and log are
  * the caller's. */
 
-/* Where a transfer stands. The caller keeps it and does not look inside; a value that no step returned is not undefined
- * behaviour, but makes some other transfer. */
+/* Where a transfer stands. The caller keeps it and does not look inside; words that no function left are not undefined
+ * behaviour, but make some other transfer. */
 typedef struct {
-    uint8_t kind;
-    uint16_t count;
-    uint32_t word;
-} celadonsaw_failure;
-
-typedef struct {
-    uint8_t kind;
-    uint16_t index, count, remaining, queue, batch;
-    celadonsaw_failure failure;
-} celadonsaw_who;
-
-typedef struct {
-    uint8_t group, row;
-    uint32_t word;
-    celadonsaw_who who;
-} celadonsaw_place;
-
-typedef struct {
-    celadonsaw_place place;
-    bool queued, restart, send_stop;
-    uint16_t address, len;
-    size_t at, begun, reads, writes;
-} celadonsaw_machine;
+    uint64_t words[20];
+} celadonsaw_transfer;
 
 /* The access that is next: kind 1 reads the register at that offset, 2 writes the value to it, 3 is a mark (register 0: a poll
  * is not done, wait for an interrupt or poll again), 0 is the end with the answer's number and, as value, its detail. */
@@ -162,17 +141,21 @@ typedef struct {
     uint32_t value;
 } celadonsaw_access;
 
-/* A transfer before its first access. queued: by polls, else blocking. restart: false for a transaction; true for a read (kinds
- * {0}), a write ({1}) or a write-read ({1, 0}). write_len and read_len are the buffers' lengths: 20 where the lengths do not add
- * up to them. kinds, lengths and both buffers stay the same up to the end. */
-celadonsaw_machine celadonsaw_start(bool queued, bool restart, uint16_t address, const uint8_t *kinds, size_t kinds_len,
-    const uint16_t *lengths, size_t lengths_len, size_t write_len, size_t read_len);
+/* Puts a transfer before its first access. queued: by polls, else blocking. restart: false for a transaction; true for a read
+ * (kinds {0}), a write ({1}) or a write-read ({1, 0}). write_len and read_len are the buffers' lengths: 20 where the lengths do
+ * not add up to them. kinds, lengths and both buffers stay the same up to the end. */
+void celadonsaw_start(celadonsaw_transfer *transfer, bool queued, bool restart, uint16_t address,
+    const uint8_t *kinds, size_t kinds_len, const uint16_t *lengths, size_t lengths_len, size_t write_len, size_t read_len);
 
-celadonsaw_access celadonsaw_next_access(celadonsaw_machine machine, const uint8_t *write, size_t write_len);
+celadonsaw_access celadonsaw_next_access(const celadonsaw_transfer *transfer, const uint8_t *write, size_t write_len);
 
-/* The transfer after that access, which read `value`; a byte received is stored in `read`. At the end nothing changes. */
-celadonsaw_machine celadonsaw_advance(celadonsaw_machine machine, uint32_t value, const uint8_t *kinds, size_t kinds_len,
+/* Goes on after that access, which read `value`; a byte received is stored in `read`. At the end nothing changes. */
+void celadonsaw_advance(celadonsaw_transfer *transfer, uint32_t value, const uint8_t *kinds, size_t kinds_len,
     const uint16_t *lengths, size_t lengths_len, uint8_t *read, size_t read_len);
+
+/* Both in one call: goes on, and tells the access that is next. */
+celadonsaw_access celadonsaw_step(celadonsaw_transfer *transfer, uint32_t value, const uint8_t *kinds, size_t kinds_len,
+    const uint16_t *lengths, size_t lengths_len, const uint8_t *write, size_t write_len, uint8_t *read, size_t read_len);
 
 #ifdef __cplusplus
 }

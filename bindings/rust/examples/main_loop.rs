@@ -87,10 +87,10 @@ impl Block {
     }
 }
 
-/// One turn of a transfer: its next access is performed. Whether there is more to do.
-fn turn(transfer: &mut Transfer, block: &mut Block) -> bool {
+/// Performs an access, and tells what it read; None at the end.
+fn perform(access: Access, block: &mut Block) -> Option<u32> {
     let mut reading = 0;
-    match transfer.next_access() {
+    match access {
         Access::Read(offset) => {
             reading = block.read(offset);
             println!("read  {offset:02X} {reading:08X}");
@@ -105,18 +105,19 @@ fn turn(transfer: &mut Transfer, block: &mut Block) -> bool {
                 Ok(()) => println!("accepted"),
                 Err(refusal) => println!("refused {:?}", refusal.number_and_detail()),
             }
-            return false;
+            return None;
         }
     }
-    transfer.advance(reading);
-    true
+    Some(reading)
 }
 
 /// The main loop up to a transfer's end. What else the firmware does is counted only.
 fn main_loop(name: &str, mut transfer: Transfer, block: &mut Block) {
     println!("-- {name}");
     let mut other_work = 0;
-    while turn(&mut transfer, block) {
+    let mut access = transfer.next_access();
+    while let Some(reading) = perform(access, block) {
+        access = transfer.step(reading);
         other_work += 1;
     }
     println!("turns of other work: {other_work}");

@@ -13,7 +13,7 @@ pub enum Operation {
 /// What a transfer does next.
 #[derive(Clone, Copy, PartialEq, Eq, Debug)]
 pub enum Access {
-    /// The register at this offset is to be read, and what it holds handed to [`Transfer::advance`].
+    /// The register at this offset is to be read, and what it holds handed to [`Transfer::step`].
     Read(u8),
     /// The word is to be written to the register at this offset.
     Write(u8, u32),
@@ -25,7 +25,7 @@ pub enum Access {
 
 /// A transfer under way, over the buffers that it is given.
 pub struct Transfer<'a> {
-    machine: raw::Machine,
+    words: raw::Words,
     kinds: [u8; MOST_OPERATIONS],
     lengths: [u16; MOST_OPERATIONS],
     count: usize,
@@ -54,8 +54,9 @@ impl<'a> Transfer<'a> {
         let count = operations.len().min(MOST_OPERATIONS);
         // Kinds and lengths that differ in number are refused too.
         let kinds_told = if operations.len() > MOST_OPERATIONS { &[] } else { &kinds[..count] };
-        let machine = raw::start(queued, restart, address, kinds_told, &lengths[..count], write.len(), read.len());
-        Transfer { machine, kinds, lengths, count, write, read }
+        let mut words = [0; 20];
+        raw::start(&mut words, queued, restart, address, kinds_told, &lengths[..count], write.len(), read.len());
+        Transfer { words, kinds, lengths, count, write, read }
     }
 
     pub fn read(queued: bool, address: u16, read: &'a mut [u8]) -> Self {
@@ -82,8 +83,29 @@ impl<'a> Transfer<'a> {
         Self::start(queued, false, address, operations, write, read)
     }
 
+    #[inline]
     pub fn next_access(&self) -> Access {
-        let access = raw::next_access(self.machine, self.write);
+        raw::next_access(&self.words, self.write).into()
+    }
+
+    /// Goes on after the access, which read `value` (0 where it read nothing).
+    #[inline]
+    pub fn advance(&mut self, value: u32) {
+        let (kinds, lengths) = (&self.kinds[..self.count], &self.lengths[..self.count]);
+        raw::advance(&mut self.words, value, kinds, lengths, self.read);
+    }
+
+    /// Goes on after the access, which read `value`, and tells the next one: both in one call.
+    #[inline]
+    pub fn step(&mut self, value: u32) -> Access {
+        let (kinds, lengths) = (&self.kinds[..self.count], &self.lengths[..self.count]);
+        raw::step(&mut self.words, value, kinds, lengths, self.write, self.read).into()
+    }
+}
+
+impl From<raw::Access> for Access {
+    #[inline]
+    fn from(access: raw::Access) -> Self {
         match access.kind {
             1 => Access::Read(access.register),
             2 => Access::Write(access.register, access.value),
@@ -91,12 +113,6 @@ impl<'a> Transfer<'a> {
             _ if access.number == 0 => Access::Ended(Ok(())),
             _ => Access::Ended(Err(Refusal::from_number(access.number, access.value))),
         }
-    }
-
-    /// Goes on after the access, which read `value` (0 where it read nothing).
-    pub fn advance(&mut self, value: u32) {
-        let (kinds, lengths) = (&self.kinds[..self.count], &self.lengths[..self.count]);
-        self.machine = raw::advance(self.machine, value, kinds, lengths, self.read);
     }
 }
 

@@ -11,13 +11,14 @@ fn logged<T>(call: impl FnOnce(&mut [u32]) -> celadonsaw::Left<T>) -> (Result<T,
     (left.answer, entries(&log, left.entries).collect(), left.used)
 }
 
-/// A transfer's steps over readings, as a whole call would do them.
+/// A transfer's steps over readings, as a whole call would do them. By turns in one call and in two: both are to do the same.
 fn stepped(mut transfer: Transfer, readings: &[u32]) -> (Result<(), Refusal>, Vec<Entry>, usize) {
     let mut log = Vec::new();
     let mut used = 0;
+    let mut access = transfer.next_access();
     loop {
         let mut value = 0;
-        match transfer.next_access() {
+        match access {
             Access::Read(offset) => {
                 let Some(reading) = readings.get(used) else { return (Err(Refusal::OutOfReadings), log, used) };
                 value = *reading;
@@ -28,7 +29,12 @@ fn stepped(mut transfer: Transfer, readings: &[u32]) -> (Result<(), Refusal>, Ve
             Access::Pending => log.push(Entry::Pending),
             Access::Ended(answer) => return (answer, log, used),
         }
-        transfer.advance(value);
+        access = if log.len() % 2 == 0 {
+            transfer.step(value)
+        } else {
+            transfer.advance(value);
+            transfer.next_access()
+        };
     }
 }
 
@@ -125,4 +131,5 @@ fn steps_refuse_what_calls_refuse() {
     let mut ended = Transfer::write(true, 0x80, &[1]);
     ended.advance(5);
     assert_eq!(ended.next_access(), Access::Ended(Err(Refusal::AddressOutOfRange(0x80))));
+    assert_eq!(ended.step(5), Access::Ended(Err(Refusal::AddressOutOfRange(0x80))));
 }

@@ -1,4 +1,4 @@
--- A transfer's steps over its numbers. `proofs/Driven.antt` says that they are the steps of the transfer itself.
+-- A transfer's start and its accesses, as a caller of the steps gets them. `proofs/Driven.antt` says that steps on what is held are the steps of the transfer.
 use Prim.Native.Nat.{ℕ}
 use mathlib.Core.Bool.{Bool}
 use mathlib.Core.List.{List}
@@ -10,12 +10,12 @@ use Rattle.regs.specs.declared.answers.Answer.the-variants.{Refused}
 use Rattle.regs.specs.declared.answers.Refusal.the-variants.{OverLimits}
 use Rattle.regs.specs.declared.answers.Reply.the-variants.{Answered}
 use Rattle.master.specs.Operations.{lists}
-use Rattle.transfer.specs.Machine.{started, next-of, advance-of}
+use Rattle.transfer.specs.Machine.{started, next-of}
 use Rattle.transfer.specs.Points.{with-point}
 use Rattle.transfer.specs.declared.Transfer.{Transfer}
 use Rattle.transfer.specs.declared.Point.the-variants as P
-use Rattle.transfer_numbers.specs.Numbers.{mode-at, transfer-at, numbers-of, has-ended}
-use Rattle.transfer_numbers.specs.declared.Machine.{Machine}
+use Rattle.transfer_numbers.specs.Held.{Held, Live, Over}
+use Rattle.transfer_words.specs.Words.{mode-at}
 use Rattle.exports_steps.specs.declared.Access.{Access}
 
 -- the end, with number and detail
@@ -38,8 +38,7 @@ first-of queued restart address kinds lengths written room =
     if lists kinds lengths written room then started (mode-at queued) restart address kinds
     else over-limits (started (mode-at queued) restart address kinds)
 
-unfoldable pub next-access-of : List ℕ → Machine → Access
-next-access-of bytes m = if has-ended (m .place) then ended (m .place .row) (m .place .word) else access-of (next-of bytes (transfer-at m))
-
-unfoldable pub advance-of-numbers : List ℕ → List ℕ → Machine → ℕ → Machine
-advance-of-numbers kinds lengths m v = if has-ended (m .place) then m else numbers-of (advance-of kinds lengths (transfer-at m) v)
+-- the access that is next
+unfoldable pub access-held : List ℕ → Held → Access
+access-held bytes (Live t) = access-of (next-of bytes t)
+access-held bytes (Over n d) = ended n d

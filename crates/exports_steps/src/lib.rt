@@ -1,5 +1,5 @@
-// A master transfer driven one access at a time from C or Rust (`rt staticlib exports_steps`): start it, then ask for the next access, perform it, and advance with the word read, until the
-// access is the end. The transfer is held by the caller, as numbers (`transfer_numbers`), and goes in and out by value.
+// A master transfer driven one access at a time from C or Rust (`rt staticlib exports_steps`): start it and ask for the first access; then perform the access and
+// step with the word read, until the access is the end. The transfer is held by the caller, as 20 words (`transfer_words`) that each function is lent.
 use i2c::is_listed;
 use regs::access::Next;
 use regs::answers::Answer;
@@ -7,12 +7,13 @@ use regs::answers::Refusal;
 use regs::answers::Reply;
 use transfer::Point;
 use transfer::Transfer;
-use transfer_numbers::Machine;
+use transfer_words::ROW;
+use transfer_words::WORD;
 ghost use mathlib.Core.Path.{_≡_};
 ghost use Rattle.regs.specs.Machine.{stored-in};
-ghost use Rattle.transfer.specs.Machine.{store-of};
-ghost use Rattle.transfer_numbers.specs.Numbers.{numbers-of, transfer-at};
-ghost use Rattle.exports_steps.specs.Steps.{access-of, over-limits, first-of, next-access-of, advance-of-numbers};
+ghost use Rattle.transfer_numbers.specs.Held.{held-of, advanced-held, store-held};
+ghost use Rattle.transfer_words.specs.Words.{held-at};
+ghost use Rattle.exports_steps.specs.Steps.{access-of, access-held, over-limits, first-of};
 
 // The access that is next: kind 1 reads the register, 2 writes the value to it, 3 is a mark (register 0: a poll that is not done; 1: a reset of the block), and 0
 // is the end, with the answer's number and, as value, its detail.
@@ -78,6 +79,7 @@ fn refuse(t: Transfer) -> Transfer
 // read, 1 a write) and `lengths` list the operations, `written` and `room` are the lengths of the write and the read buffer.
 #[no_mangle]
 pub extern "C" fn celadonsaw_start(
+    words: &mut [u64; 20],
     queued: bool,
     restart: bool,
     address: u16,
@@ -85,51 +87,86 @@ pub extern "C" fn celadonsaw_start(
     lengths: &[u16],
     written: usize,
     room: usize,
-) -> Machine
-    ensures { λ r. ⌜ r ≡ numbers-of (first-of queued restart address (now (kinds .entry)) (now (lengths .entry)) written room) ⌝ }
+)
+    ensures { λ _. ⌜ held-at (now (words .exit)) ≡ held-of (first-of queued restart address (now (kinds .entry)) (now (lengths .entry)) written room) ⌝ }
 {
-    let t = transfer_steps::start(transfer_numbers::mode(queued), restart, address, kinds);
+    let t = transfer_steps::start(transfer_words::mode(queued), restart, address, kinds);
     if is_listed(kinds, lengths, written, room) {
-        transfer_numbers::numbers(t)
+        transfer_words::put(words, t);
     } else {
-        transfer_numbers::numbers(refuse(t))
+        transfer_words::put(words, refuse(t));
     }
 }
 
 // The access that is next. `write` is the write buffer.
 #[no_mangle]
-pub extern "C" fn celadonsaw_next_access(machine: Machine, write: &[u8]) -> Access
-    ensures { λ r. ⌜ r ≡ next-access-of (now (write .entry)) machine ⌝ }
+pub extern "C" fn celadonsaw_next_access(words: &[u64; 20], write: &[u8]) -> Access
+    ensures { λ r. ⌜ r ≡ access-held (now (write .entry)) (held-at (now (words .entry))) ⌝ }
 {
-    let place = machine.place;
-    if place.group == 8 {
+    if transfer_words::ended(words) {
         return Access {
             kind: 0,
             register: 0,
-            number: place.row,
-            value: place.word,
+            number: transfer_words::byte(words[ROW]),
+            value: transfer_words::full(words[WORD]),
         };
     }
-    told_access(transfer_access::next_access(transfer_numbers::transfer_from(machine), write))
+    told_access(transfer_access::next_access(transfer_words::transfer_from(words), write))
+}
+
+// A step that is not made on the words: they are decoded, and the transfer after the step is put back.
+fn by_points(words: &mut [u64; 20], value: u32, kinds: &[u8], lengths: &[u16])
+    ensures { λ _. ⌜ held-at (now (words .exit)) ≡ advanced-held (now (kinds .entry)) (now (lengths .entry)) (held-at (now (words .entry))) value ⌝ }
+{
+    if transfer_words::ended(words) {
+        return;
+    }
+    let t = transfer_words::transfer_from(words);
+    transfer_words::put(words, transfer_steps::advance(t, value, kinds, lengths));
 }
 
 // The transfer after that access, which read `value` (0 where it read nothing); a byte received is put into `read`, the read buffer.
 #[no_mangle]
 pub extern "C" fn celadonsaw_advance(
-    machine: Machine,
+    words: &mut [u64; 20],
     value: u32,
     kinds: &[u8],
     lengths: &[u16],
     read: &mut [u8],
-) -> Machine
-    ensures { λ r. ⌜ r ≡ advance-of-numbers (now (kinds .entry)) (now (lengths .entry)) machine value ⌝ }
-    ensures { λ _. ⌜ now (read .exit) ≡ stored-in (now (read .entry)) (store-of (transfer-at machine) value) ⌝ }
+)
+    ensures { λ _. ⌜ held-at (now (words .exit)) ≡ advanced-held (now (kinds .entry)) (now (lengths .entry)) (held-at (now (words .entry))) value ⌝ }
+    ensures { λ _. ⌜ now (read .exit) ≡ stored-in (now (read .entry)) (store-held (held-at (now (words .entry))) value) ⌝ }
 {
-    let t = transfer_numbers::transfer_from(machine);
-    regs::access::keep(read, transfer_access::store(t, value));
-    let place = machine.place;
-    if place.group == 8 {
-        return machine;
+    regs::access::keep(read, transfer_words_access::store(words, value));
+    by_points(words, value, kinds, lengths);
+}
+
+// Both in one call: advances, and tells the access that is next. The frequent steps are here alone: with one caller their code is inlined.
+#[no_mangle]
+pub extern "C" fn celadonsaw_step(
+    words: &mut [u64; 20],
+    value: u32,
+    kinds: &[u8],
+    lengths: &[u16],
+    write: &[u8],
+    read: &mut [u8],
+) -> Access
+    ensures { λ r. ⌜ r ≡ access-held (now (write .entry)) (held-at (now (words .exit))) ⌝ }
+    ensures { λ _. ⌜ held-at (now (words .exit)) ≡ advanced-held (now (kinds .entry)) (now (lengths .entry)) (held-at (now (words .entry))) value ⌝ }
+    ensures { λ _. ⌜ now (read .exit) ≡ stored-in (now (read .entry)) (store-held (held-at (now (words .entry))) value) ⌝ }
+{
+    regs::access::keep(read, transfer_words_access::store(words, value));
+    let code = transfer_in_place::step(words, value);
+    if code == 0 {
+        by_points(words, value, kinds, lengths);
+        let a = celadonsaw_next_access(words, write);
+        // Field by field: then the access is put together in a register, and not in memory.
+        return Access {
+            kind: a.kind,
+            register: a.register,
+            number: a.number,
+            value: a.value,
+        };
     }
-    transfer_numbers::numbers(transfer_steps::advance(t, value, kinds, lengths))
+    told_access(transfer_words_access::access_at(words, code / 8, code % 8, write))
 }

@@ -1,2 +1,2 @@
--- What holds of a transfer as numbers.
+-- What holds of a point as numbers.
 pub mod Kept

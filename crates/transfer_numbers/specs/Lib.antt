@@ -1,2 +1,3 @@
--- A transfer as numbers.
+-- A point as numbers.
+pub mod Held
 pub mod Numbers

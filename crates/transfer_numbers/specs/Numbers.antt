@@ -1,6 +1,5 @@
--- A transfer as numbers: which row of numbers each point has, and which point a row stands for.
+-- A point as numbers: which row of numbers each point has, and which point a row stands for.
 use Prim.Native.Nat.{ℕ}
-use mathlib.Core.Bool.{Bool, true, false}
 use lib.Dec.{eqb}
 use Rattle.regs.specs.Program.{if_then_else_}
 use Rattle.regs.specs.Answers.{number, detail}
@@ -9,8 +8,6 @@ use Rattle.regs.specs.declared.answers.AbortReason.the-variants as E
 use Rattle.regs.specs.declared.answers.Answer.{Answer}
 use Rattle.regs.specs.declared.answers.Answer.the-variants.{Accepted}
 use Rattle.regs.specs.declared.answers.Reply.the-variants.{Answered}
-use Rattle.transfer.specs.declared.Mode.{Mode}
-use Rattle.transfer.specs.declared.Mode.the-variants.{Blocking, Async}
 use Rattle.transfer.specs.declared.Tried.{Tried}
 use Rattle.transfer.specs.declared.Tried.the-variants.{Fine, Failed}
 use Rattle.transfer.specs.declared.Round.{Round}
@@ -36,11 +33,9 @@ use Rattle.transfer.specs.declared.StopPoint.{StopPoint}
 use Rattle.transfer.specs.declared.StopPoint.the-variants as S
 use Rattle.transfer.specs.declared.Point.{Point}
 use Rattle.transfer.specs.declared.Point.the-variants.{Setup, Abort, ReadBlocking, WriteBlocking, ReadAsync, WriteAsync, Wait, Stop, Finished}
-use Rattle.transfer.specs.declared.Transfer.{Transfer}
 use Rattle.transfer_numbers.specs.declared.Failure.{Failure}
 use Rattle.transfer_numbers.specs.declared.Who.{Who}
 use Rattle.transfer_numbers.specs.declared.Place.{Place}
-use Rattle.transfer_numbers.specs.declared.Machine.{Machine}
 
 -- ---- points as numbers
 
@@ -139,14 +134,6 @@ place-of (Wait p) = wait-row p
 place-of (Stop p) = stop-row p
 place-of (Finished a) = answer-row a
 
-unfoldable pub is-queued : Mode → Bool
-is-queued Blocking = false
-is-queued Async = true
-
-unfoldable pub numbers-of : Transfer → Machine
-numbers-of t =
-    record { place = place-of (t .point); queued = is-queued (t .mode); restart = t .restart; «send_stop» = t .«send_stop»; address = t .address; len = t .len; at = t .at; begun = t .begun; reads = t .reads; writes = t .writes }
-
 -- ---- numbers as points; what has no row is taken for the last one of its kind
 
 unfoldable pub reason-at : Failure → AbortReason
@@ -206,15 +193,3 @@ point-at p =
     else (if eqb (p .group) 5 then WriteAsync (fill-at (p .row) (p .who .index) (p .who .count))
     else (if eqb (p .group) 6 then Wait (wait-at (p .row) (p .word) (p .who))
     else (if eqb (p .group) 7 then Stop (stop-at (p .row) (p .who .failure)) else Finished Accepted)))))))
-
-unfoldable pub mode-at : Bool → Mode
-mode-at false = Blocking
-mode-at true = Async
-
-unfoldable pub transfer-at : Machine → Transfer
-transfer-at m =
-    record { point = point-at (m .place); mode = mode-at (m .queued); restart = m .restart; «send_stop» = m .«send_stop»; address = m .address; len = m .len; at = m .at; begun = m .begun; reads = m .reads; writes = m .writes }
-
--- whether a transfer has ended
-abbrev pub has-ended : Place → Bool
-has-ended p = eqb (p .group) 8

@@ -86,7 +86,7 @@ fn poll_of(w: Who) -> Poll
     Poll::Stop(tried_of(f))
 }
 
-fn setup_of(row: u8) -> SetupPoint
+pub fn setup_of(row: u64) -> SetupPoint
     ensures { λ r. ⌜ r ≡ setup-at row ⌝ }
 {
     if row == 0 {
@@ -98,7 +98,7 @@ fn setup_of(row: u8) -> SetupPoint
     SetupPoint::Enable
 }
 
-fn abort_of(row: u8, word: u32) -> AbortPoint
+pub fn abort_of(row: u64, word: u32) -> AbortPoint
     ensures { λ r. ⌜ r ≡ abort-at row word ⌝ }
 {
     if row == 0 {
@@ -107,7 +107,7 @@ fn abort_of(row: u8, word: u32) -> AbortPoint
     AbortPoint::Clear(word)
 }
 
-fn read_of(row: u8, i: u16) -> ReadPoint
+pub fn read_of(row: u64, i: u16) -> ReadPoint
     ensures { λ r. ⌜ r ≡ read-at row i ⌝ }
 {
     if row == 0 {
@@ -122,7 +122,7 @@ fn read_of(row: u8, i: u16) -> ReadPoint
     ReadPoint::Take(i)
 }
 
-fn write_of(row: u8, w: Who) -> WritePoint
+pub fn write_of(row: u64, w: Who) -> WritePoint
     ensures { λ r. ⌜ r ≡ write-at row w ⌝ }
 {
     if row == 0 {
@@ -135,7 +135,7 @@ fn write_of(row: u8, w: Who) -> WritePoint
     WritePoint::StopDet(tried_of(f))
 }
 
-fn queue_of(row: u8, w: Who) -> RoundPoint
+pub fn queue_of(row: u64, w: Who) -> RoundPoint
     ensures { λ r. ⌜ r ≡ queue-at row w ⌝ }
 {
     if row == 0 {
@@ -150,7 +150,7 @@ fn queue_of(row: u8, w: Who) -> RoundPoint
     RoundPoint::Fetch(round_of(w), w.count)
 }
 
-fn fill_of(row: u8, i: u16, n: u16) -> FillPoint
+pub fn fill_of(row: u64, i: u16, n: u16) -> FillPoint
     ensures { λ r. ⌜ r ≡ fill-at row i n ⌝ }
 {
     if row == 0 {
@@ -162,7 +162,7 @@ fn fill_of(row: u8, i: u16, n: u16) -> FillPoint
     FillPoint::Full(i)
 }
 
-fn wait_of(row: u8, word: u32, w: Who) -> WaitPoint
+pub fn wait_of(row: u64, word: u32, w: Who) -> WaitPoint
     ensures { λ r. ⌜ r ≡ wait-at row word w ⌝ }
 {
     if row == 0 {
@@ -180,7 +180,7 @@ fn wait_of(row: u8, word: u32, w: Who) -> WaitPoint
     WaitPoint::Pending(poll_of(w))
 }
 
-fn stop_of(row: u8, f: Failure) -> StopPoint
+pub fn stop_of(row: u64, f: Failure) -> StopPoint
     ensures { λ r. ⌜ r ≡ stop-at row f ⌝ }
 {
     if row == 0 {

@@ -21,7 +21,7 @@ use transfer::WritePoint;
 ghost use mathlib.Core.Path.{_≡_};
 ghost use Rattle.transfer_numbers.specs.Numbers.{failure, reason-row, tried-row, indexed, rounded, ending, caller-row, poll-row, place-row, setup-row, abort-row, read-row, write-row, queue-row, fill-row, wait-row, stop-row, answer-row, place-of};
 
-fn fail(kind: u8, count: u16, word: u32) -> Failure
+fn fail(kind: u64, count: u16, word: u32) -> Failure
     ensures { λ r. ⌜ r ≡ failure kind count word ⌝ }
 {
     Failure { kind, count, word }
@@ -47,7 +47,7 @@ fn of_tried(t: Tried) -> Failure
     }
 }
 
-fn at_index(kind: u8, i: u16, n: u16) -> Who
+fn at_index(kind: u64, i: u16, n: u16) -> Who
     ensures { λ r. ⌜ r ≡ indexed kind i n ⌝ }
 {
     let none = fail(0, 0, 0);
@@ -62,7 +62,7 @@ fn at_index(kind: u8, i: u16, n: u16) -> Who
     }
 }
 
-fn at_round(kind: u8, round: Round, n: u16) -> Who
+fn at_round(kind: u64, round: Round, n: u16) -> Who
     ensures { λ r. ⌜ r ≡ rounded kind round n ⌝ }
 {
     let none = fail(0, 0, 0);
@@ -77,7 +77,7 @@ fn at_round(kind: u8, round: Round, n: u16) -> Who
     }
 }
 
-fn at_end(kind: u8, t: Tried) -> Who
+fn at_end(kind: u64, t: Tried) -> Who
     ensures { λ r. ⌜ r ≡ ending kind t ⌝ }
 {
     Who {
@@ -113,7 +113,7 @@ fn of_poll(p: Poll) -> Who
     }
 }
 
-fn at(group: u8, row: u8, word: u32, who: Who) -> Place
+fn at(group: u64, row: u64, word: u32, who: Who) -> Place
     ensures { λ r. ⌜ r ≡ place-row group row word who ⌝ }
 {
     Place {
@@ -212,7 +212,7 @@ fn of_answer(a: Answer) -> Place
     let reply = Reply::Answered(a);
     at(
         8,
-        regs::answers::number_of(reply),
+        super::wide8(regs::answers::number_of(reply)),
         regs::answers::detail_of(reply),
         at_index(0, 0, 0),
     )

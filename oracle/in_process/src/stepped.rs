@@ -35,14 +35,15 @@ pub fn run(call: &Call, buffer: &mut Vec<u8>) -> Option<Answer> {
 }
 
 fn to_end(mut transfer: Transfer) -> Answer {
+    let mut access = transfer.next_access();
     loop {
         let mut reading = 0;
-        match transfer.next_access() {
+        match access {
             Access::Read(offset) => reading = bus::read(offset),
             Access::Write(offset, word) => bus::write(offset, word),
             Access::Pending => bus::mark(Entry::Pending),
             Access::Ended(answer) => return numbers(answer, |()| 0),
         }
-        transfer.advance(reading);
+        access = transfer.step(reading);
     }
 }

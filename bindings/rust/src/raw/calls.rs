@@ -96,6 +96,7 @@ pub fn slave_respond_and_fill(slave: Slave, bytes: &[u8], fill: u8, readings: &[
 }
 
 pub fn start(
+    words: &mut Words,
     queued: bool,
     restart: bool,
     address: u16,
@@ -103,14 +104,21 @@ pub fn start(
     lengths: &[u16],
     written: usize,
     room: usize,
-) -> Machine {
-    call!(celadonsaw_start(queued, restart, address, ref kinds, ref lengths, written, room))
+) {
+    call!(celadonsaw_start(words, queued, restart, address, ref kinds, ref lengths, written, room))
 }
 
-pub fn next_access(machine: Machine, write: &[u8]) -> Access {
-    call!(celadonsaw_next_access(machine, ref write))
+#[inline]
+pub fn next_access(words: &Words, write: &[u8]) -> Access {
+    call!(celadonsaw_next_access(words, ref write))
 }
 
-pub fn advance(machine: Machine, value: u32, kinds: &[u8], lengths: &[u16], read: &mut [u8]) -> Machine {
-    call!(celadonsaw_advance(machine, value, ref kinds, ref lengths, mut read))
+#[inline]
+pub fn advance(words: &mut Words, value: u32, kinds: &[u8], lengths: &[u16], read: &mut [u8]) {
+    call!(celadonsaw_advance(words, value, ref kinds, ref lengths, mut read))
+}
+
+#[inline]
+pub fn step(words: &mut Words, value: u32, kinds: &[u8], lengths: &[u16], write: &[u8], read: &mut [u8]) -> Access {
+    call!(celadonsaw_step(words, value, ref kinds, ref lengths, ref write, mut read))
 }

@@ -29,50 +29,8 @@ pub struct SlaveReport {
     pub report: Report,
 }
 
-#[repr(C)]
-#[derive(Clone, Copy)]
-struct Failure {
-    kind: u8,
-    count: u16,
-    word: u32,
-}
-
-#[repr(C)]
-#[derive(Clone, Copy)]
-struct Who {
-    kind: u8,
-    index: u16,
-    count: u16,
-    remaining: u16,
-    queue: u16,
-    batch: u16,
-    failure: Failure,
-}
-
-#[repr(C)]
-#[derive(Clone, Copy)]
-struct Place {
-    group: u8,
-    row: u8,
-    word: u32,
-    who: Who,
-}
-
-/// Nothing outside the library looks inside.
-#[repr(C)]
-#[derive(Clone, Copy)]
-pub struct Machine {
-    place: Place,
-    queued: bool,
-    restart: bool,
-    send_stop: bool,
-    address: u16,
-    len: u16,
-    at: usize,
-    begun: usize,
-    reads: usize,
-    writes: usize,
-}
+/// A transfer. Nothing outside the library looks inside.
+pub type Words = [u64; 20];
 
 #[repr(C)]
 #[derive(Clone, Copy)]
@@ -226,6 +184,7 @@ extern "C" {
         log_len: usize,
     ) -> SlaveReport;
     fn celadonsaw_start(
+        words: *mut Words,
         queued: bool,
         restart: bool,
         address: u16,
@@ -235,10 +194,10 @@ extern "C" {
         lengths_len: usize,
         written: usize,
         room: usize,
-    ) -> Machine;
-    fn celadonsaw_next_access(machine: Machine, write: *const u8, write_len: usize) -> Access;
+    );
+    fn celadonsaw_next_access(words: *const Words, write: *const u8, write_len: usize) -> Access;
     fn celadonsaw_advance(
-        machine: Machine,
+        words: *mut Words,
         value: u32,
         kinds: *const u8,
         kinds_len: usize,
@@ -246,5 +205,17 @@ extern "C" {
         lengths_len: usize,
         read: *mut u8,
         read_len: usize,
-    ) -> Machine;
+    );
+    fn celadonsaw_step(
+        words: *mut Words,
+        value: u32,
+        kinds: *const u8,
+        kinds_len: usize,
+        lengths: *const u16,
+        lengths_len: usize,
+        write: *const u8,
+        write_len: usize,
+        read: *mut u8,
+        read_len: usize,
+    ) -> Access;
 }

@@ -7,6 +7,9 @@ use Rattle.transfer_numbers.proofs.rows.of_answer.Tie as tie
 number-of-requires : tie.Need-number-of-requires
 number-of-requires c κs = search needs
 
+wide8-requires : tie.Need-wide8-requires
+wide8-requires c κs = search needs
+
 detail-of-requires : tie.Need-detail-of-requires
 detail-of-requires c κs = search needs
 
@@ -18,9 +21,9 @@ at-requires c κs = search needs
 
 returns : tie.Need-returns
 unfolding answer-row
-returns c = simp (c .before .before .before .number-of .ensures, c .before .before .detail-of .ensures, c .before .at-index .ensures, c .at .ensures)
+returns c = simp (c .before .before .before .before .number-of .ensures, c .before .before .before .wide8 .ensures, c .before .before .detail-of .ensures, c .before .at-index .ensures, c .at .ensures)
 
 pub of-answer-spec : {M : Type 1} → statement M
 of-answer-spec =
     tie.close
-    (tie.spec number-of-requires detail-of-requires at-index-requires at-requires returns)
+    (tie.spec number-of-requires wide8-requires detail-of-requires at-index-requires at-requires returns)

@@ -1,7 +1,7 @@
--- `transfer_numbers::mode` meets its contract.
-use Rattle.transfer_numbers.specs.Numbers.{mode-at}
-use Rattle.transfer_numbers.proofs.mode.Statement.{statement}
-use Rattle.transfer_numbers.proofs.mode.Tie as tie
+-- `transfer_words::mode` meets its contract.
+use Rattle.transfer_words.specs.Words.{mode-at}
+use Rattle.transfer_words.proofs.mode.Statement.{statement}
+use Rattle.transfer_words.proofs.mode.Tie as tie
 
 returns : tie.Need-returns
 unfolding mode-at

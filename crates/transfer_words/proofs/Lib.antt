@@ -1,0 +1,3 @@
+-- What holds of a transfer as words.
+pub mod Cells
+pub mod Kept

@@ -1,0 +1,2 @@
+-- What holds of the access at words.
+pub mod Stored

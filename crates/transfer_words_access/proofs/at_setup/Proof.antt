@@ -1,0 +1,28 @@
+-- `transfer_words_access::at_setup` meets its contract.
+use borrow.Author.Needs.{needs}
+use Rattle.transfer.specs.Machine.{next-at}
+use Rattle.transfer_numbers.specs.Numbers.{point-at}
+use Rattle.transfer_words.specs.Words.{place-in, transfer-in}
+use Rattle.transfer_words_access.proofs.at_setup.Statement.{statement}
+use Rattle.transfer_words_access.proofs.at_setup.Tie as tie
+
+setup-of-requires : tie.Need-setup-of-requires
+setup-of-requires c κs = search needs
+
+element-copy-out-half : tie.Need-element-copy-out-half
+element-copy-out-half c = search needs
+
+half-requires : tie.Need-half-requires
+half-requires c κs = search needs
+
+next-setup-requires : tie.Need-next-setup-requires
+next-setup-requires c κs = search needs
+
+returns : tie.Need-returns
+unfolding next-at transfer-in point-at place-in
+returns c = λ bytes. simp (c .before .before .before .before .pre .0, c .before .before .before .before .pre .1, c .before .before .before .setup-of .ensures, c .before .half .ensures, c .next-setup .ensures)
+
+pub at-setup-spec : {M : Type 1} → statement M
+at-setup-spec =
+    tie.close
+    (tie.spec setup-of-requires element-copy-out-half half-requires next-setup-requires returns)
