@@ -1,14 +1,13 @@
 -- Calls of `next_line` one after the other hand out every line of the input, each cut at the buffer's end.
 use Prim.Native.Nat.{ℕ, zero, suc, _<_, _≤_}
 use native.Mathlib.Omega.{arith}
-use mathlib.Core.Bool.{Bool, true, false, not, _||_, true≢false}
+use mathlib.Core.Bool.{Bool, true, false, _||_, true≢false}
 use mathlib.Core.List.{List, [], _∷_, _++_, map, append-assoc, append-nil}
 use mathlib.Core.Path.{_≡_, refl, sym, ap, _∙_}
 use lib.Dec.{eqb, ltb}
 use lib.ListN.{length, take}
 use lib.Seq.{length-take-le, take-nil}
 use borrow.Author.Tests.{ltb-true, ltb-false}
-use Rattle.regs.specs.Program.{if_then_else_}
 use Rattle.frames_text.specs.Text.{LF, last-line, lines}
 use Rattle.line_input.specs.Handed.{before-lf, after-lf, has-lf, unread, HandedOut}
 use Rattle.line_input.specs.declared.Source.{Source}

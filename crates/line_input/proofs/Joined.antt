@@ -2,9 +2,8 @@
 use Prim.Native.Nat.{ℕ}
 use mathlib.Core.Bool.{Bool, true, false, true≢false}
 use mathlib.Core.List.{List, [], _∷_, _++_}
-use mathlib.Core.Path.{_≡_, refl, ap}
+use mathlib.Core.Path.{_≡_, refl}
 use lib.Dec.{eqb}
-use Rattle.regs.specs.Program.{if_then_else_}
 use Rattle.frames_text.specs.Text.{LF}
 use Rattle.line_input.specs.Handed.{before-lf, after-lf, has-lf}
 

@@ -4,7 +4,7 @@ use native.Mathlib.Omega.{arith}
 use native.Mathlib.Numerals.{add-one}
 use mathlib.Core.Bool.{true, false}
 use mathlib.Core.List.{List, [], _∷_, _++_, append-assoc, append-nil}
-use mathlib.Core.Path.{_≡_, refl, sym, ap, _∙_}
+use mathlib.Core.Path.{_≡_, refl, sym, _∙_}
 use lib.ListN.{length, take, getD, set, length-set}
 use lib.Seq.{slice, slice-cons, slice-empty, take-all, take-append-le, take-suc-set, length-take-le}
 use borrow.Author.Tests.{eq-eqb, ne-eqb}

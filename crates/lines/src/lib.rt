@@ -3,7 +3,6 @@ use calls::Call;
 use frames_text::digits::Value;
 use frames_text::digits::number;
 ghost use mathlib.Core.Path.{_≡_};
-ghost use lib.ListN.{length};
 ghost use Rattle.frames_text.specs.Appended.{Below, NumberAs};
 ghost use Rattle.lines.specs.Frame.{clock-of, master-of, reset-of, listen-of, fill-of, read-of, reading-of, slave-of, of-kind, plain-of, fill-head, slave-head, head-of, width};
 ghost use Rattle.lines.specs.Short.{as-frame};

@@ -3,12 +3,12 @@ use Prim.Native.Nat.{ℕ, _+_, _/_, _-_, _<_, _≤_, _^_}
 use native.Mathlib.Omega.{arith}
 use mathlib.Core.Bool.{Bool, true, false}
 use mathlib.Core.List.{List}
-use mathlib.Core.Path.{_≡_, refl, ap}
+use mathlib.Core.Path.{_≡_, refl}
 use lib.ListN.{length, getD, length-set}
 use Rattle.regs.specs.Registers.{RAW-INTR-STAT}
 use Rattle.regs.specs.Machine.{entered}
 use Rattle.transfer.specs.Points.{with-point}
-use Rattle.transfer.specs.Machine.{machine, next-at, next-write, store-at, step-of, step-write, moved-to}
+use Rattle.transfer.specs.Machine.{machine, next-at, next-write, store-at, step-of, step-write}
 use Rattle.transfer.specs.declared.Transfer.{Transfer}
 use Rattle.transfer.specs.declared.Tried.{Tried}
 use Rattle.transfer.specs.declared.Point.{Point}

@@ -1,7 +1,7 @@
 -- A blocking read waits for its byte.
 use Prim.Native.Nat.{ℕ, _+_, _/_, _-_, _<_, _≤_, _^_}
 use native.Mathlib.Omega.{arith}
-use mathlib.Core.Bool.{true, _&&_}
+use mathlib.Core.Bool.{true}
 use mathlib.Core.List.{List}
 use mathlib.Core.Path.{_≡_, refl}
 use lib.Dec.{eqb}

@@ -1,11 +1,11 @@
 -- The waits of the async forms.
-use Prim.Native.Nat.{ℕ, _+_, _/_, _-_, _<_, _≤_, _^_}
+use Prim.Native.Nat.{ℕ, _+_, _/_, _-_, _<_, _≤_}
 use native.Mathlib.Omega.{arith}
-use mathlib.Core.Bool.{true, not, _&&_}
+use mathlib.Core.Bool.{true, not}
 use mathlib.Core.List.{List}
 use mathlib.Core.Path.{_≡_, refl}
 use lib.Dec.{eqb, ltb}
-use lib.ListN.{length, getD, length-set}
+use lib.ListN.{length, getD}
 use borrow.Author.Tests.{eqb-true, not-true}
 use Rattle.regs.proofs.Tests.{both-of}
 use Rattle.regs.specs.Program.{PENDING}
@@ -18,7 +18,6 @@ use Rattle.transfer.specs.declared.Transfer.{Transfer}
 use Rattle.transfer.specs.declared.Round.{Round}
 use Rattle.transfer.specs.declared.Poll.{Poll}
 use Rattle.transfer.specs.declared.Poll.the-variants as O
-use Rattle.transfer.specs.declared.Point.{Point}
 use Rattle.transfer.specs.declared.Point.the-variants.{Abort, ReadAsync, WriteAsync, Wait}
 use Rattle.transfer.specs.declared.Point.the-variants as P
 use Rattle.transfer.specs.declared.RoundPoint.the-variants.{Level}
@@ -29,10 +28,8 @@ use Rattle.transfer.specs.declared.WaitPoint.the-variants.{RxTl, TxTl, Mask, Se
 use Rattle.transfer.specs.declared.StopPoint.the-variants.{Stat}
 use Rattle.transfer.specs.declared.Tried.the-variants.{Fine}
 use Rattle.runs.specs.Reaches.{Reaches}
-use Rattle.runs.proofs.Reach.{stays, did-read, did-write, did-mark}
-use Rattle.runs.proofs.Turns.{Polls, poll}
-use Rattle.transfer_burst.specs.Bursts.{ForAny}
-use Rattle.transfer_idle.specs.Stays.{Stays, too-few, no-place, no-stop}
+use Rattle.runs.proofs.Reach.{did-read, did-write, did-mark}
+use Rattle.transfer_idle.specs.Stays.{too-few, no-place, no-stop}
 
 -- three entries: INTR_MASK, read and set, and the mark
 abbrev pub waited : List ℕ → ℕ → ℕ → ℕ → List ℕ

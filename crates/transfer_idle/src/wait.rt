@@ -14,7 +14,6 @@ use transfer::counts::less;
 ghost use mathlib.Core.Path.{_≡_};
 ghost use Prim.Native.Nat.{ℕ, _+_, _-_, _/_, _<_, _≤_};
 ghost use lib.ListN.{length};
-ghost use Rattle.regs.specs.Fields.{set-m-rx-full, set-m-tx-empty, set-m-tx-abrt, set-m-stop-det};
 ghost use Rattle.regs.specs.Program.{PENDING};
 ghost use Rattle.regs.specs.Registers.{INTR-MASK};
 ghost use Rattle.regs.specs.Machine.{entered};

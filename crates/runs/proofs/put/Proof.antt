@@ -3,8 +3,6 @@ use lib.ListN.{length-set}
 use borrow.Author.Needs.{needs}
 use Rattle.runs.proofs.put.Statement.{statement}
 use Rattle.runs.proofs.put.Tie as tie
-use Rattle.runs.proofs.put.Reads as reads
-use Rattle.runs.proofs.put.Lts as lts
 
 -- src/lib.rt:12:14
 mul-at : tie.Need-mul-at

@@ -4,7 +4,6 @@ use Rattle.slave_ahead.proofs.respond_from.Statement.{statement}
 use Rattle.slave_ahead.proofs.respond_from.Tie as tie
 use native.Mathlib.Omega.{arith}
 use denote.Ref.{now}
-use mathlib.Core.Path.{_∙_}
 use Rattle.slave_ahead.proofs.Coming.{not-ahead, respond-ahead}
 
 count-requires : tie.Need-count-requires

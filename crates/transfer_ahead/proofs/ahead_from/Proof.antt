@@ -4,7 +4,6 @@ use Rattle.transfer_ahead.proofs.ahead_from.Statement.{statement}
 use Rattle.transfer_ahead.proofs.ahead_from.Tie as tie
 use native.Mathlib.Omega.{arith}
 use mathlib.Core.List.{[]}
-use mathlib.Core.Path.{refl}
 use Rattle.transfer_ahead.proofs.Coming.{then-polls}
 
 burst-from-requires : tie.Need-burst-from-requires

@@ -2,7 +2,6 @@
 use borrow.Author.Needs.{needs}
 use Rattle.transfer_idle.proofs.before_source.Statement.{statement}
 use Rattle.transfer_idle.proofs.before_source.Tie as tie
-use native.Mathlib.Omega.{arith}
 use mathlib.Core.Path.{ap, _∙_}
 use Rattle.transfer.specs.declared.Point.the-variants.{Abort}
 use Rattle.transfer.specs.declared.AbortPoint.the-variants.{Source}

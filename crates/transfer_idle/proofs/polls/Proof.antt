@@ -2,7 +2,6 @@
 use borrow.Author.Needs.{needs}
 use Rattle.transfer_idle.proofs.polls.Statement.{statement}
 use Rattle.transfer_idle.proofs.polls.Tie as tie
-use native.Mathlib.Omega.{arith}
 use mathlib.Core.Path.{refl, ap, _∙_}
 use Rattle.transfer.specs.declared.Point.the-variants.{WriteBlocking, ReadBlocking, ReadAsync}
 use Rattle.transfer_idle.proofs.AtFlag.{empty-awaits, stop-awaits}
