@@ -6,7 +6,7 @@ use mathlib.Core.List.{List}
 use mathlib.Core.Path.{_≡_, refl, sym}
 use lib.Dec.{eqb, ltb}
 use Rattle.regs.proofs.Tests.{by-test}
-use Rattle.regs.specs.Program.{Behaviour, ends, reads, writes, marks, ok, err, by-turn, Poll, pending, ready, polled, wait-on, return, modify}
+use Rattle.regs.specs.Program.{if_then_else_, Behaviour, ends, reads, writes, marks, ok, err, by-turn, Poll, pending, ready, polled, wait-on, return, modify}
 use Rattle.regs.specs.Registers.{INTR-MASK, RAW-INTR-STAT, CLR-STOP-DET}
 use Rattle.regs.specs.Fields.{stop-det, set-m-stop-det, set-m-tx-abrt}
 use Rattle.regs.specs.Machine.{Machine}
