@@ -1,12 +1,21 @@
-// A step inside a line: a run of its bytes, or one byte.
+// A step inside a line: a run of its bytes, or one byte. No call is run here.
+pub mod ahead; // whole lines of a chunk
+
 use bytes_run::run;
+use reader::Part;
 use reader::State;
+use reader::Turn;
 use reader::turns::go_on;
-use reader_turns::one;
+use reader::turns::keep;
+use reader::turns::skip;
+ghost use mathlib.Core.Path.{_≡_};
+ghost use mathlib.Core.List.{[], _∷_};
 ghost use Prim.Native.Nat.{_+_, _<_, _≤_};
-ghost use lib.ListN.{length, drop};
+ghost use lib.ListN.{length, drop, getD};
 ghost use Rattle.calls.specs.Runs.{MOST-TEXT};
-ghost use Rattle.reader.specs.Rest.{whole, Sound, Went};
+ghost use Rattle.session.specs.Enter.{LONGEST-KEPT};
+ghost use Rattle.reader.specs.Rest.{PartSound};
+ghost use Rattle.bytes_step.specs.Inside.{NoEnd, WentInside};
 
 // The state after some of a chunk, how much of it was read, and where the answers in `out` end.
 pub struct Fed {
@@ -15,23 +24,23 @@ pub struct Fed {
     pub made: usize,
 }
 
-// A run of bytes, where one is ahead, or else a byte.
-pub fn some(
-    chunk: &[u8],
-    i: usize,
-    s: State,
-    text: &mut [u8],
-    kinds: &mut [u8],
-    lengths: &mut [u16],
-    bytes: &mut [u8],
-    readings: &mut [u32],
-    buffer: &mut [u8],
-    log: &mut [u32],
-    out: &mut [u8],
-    at: usize,
-) -> Fed
-    requires { ⌜ Sound (whole s (now text) (now kinds) (now lengths) (now bytes) (now readings) (now buffer) (now log)) × (at + MOST-TEXT ≤ length (now out)) × (i < length (now chunk)) ⌝ }
-    ensures { λ r. ⌜ Went (whole s (now (text .entry)) (now (kinds .entry)) (now (lengths .entry)) (now (bytes .entry)) (now (readings .entry)) (now (buffer .entry)) (now (log .entry))) (now (out .entry)) at (drop i (now (chunk .entry))) (whole (r .state) (now (text .exit)) (now (kinds .exit)) (now (lengths .exit)) (now (bytes .exit)) (now (readings .exit)) (now (buffer .exit)) (now (log .exit))) (now (out .exit)) (r .made) (drop (r .used) (now (chunk .entry))) × (r .made ≤ at + MOST-TEXT) × (i < r .used) × (r .used ≤ length (now (chunk .entry))) ⌝ }
+// A byte that is no LF.
+fn one(x: u8, s: State, text: &mut [u8], out: &mut [u8], at: usize) -> Turn
+    requires { ⌜ NoEnd x × (length (now text) ≡ LONGEST-KEPT) × (at + MOST-TEXT ≤ length (now out)) ⌝ }
+    ensures { λ r. ⌜ WentInside s (now (text .entry)) (now (out .entry)) at (x ∷ []) (r .state) (now (text .exit)) (now (out .exit)) (r .made) [] ⌝ }
+{
+    let p = s.part;
+    match p {
+        Part::Stopped => Turn { state: s, made: at },
+        Part::Text(n) => keep(x, n, s, text, out, at),
+        Part::Long(odd) => skip(x, odd, s, out, at),
+    }
+}
+
+// A run of bytes, where one is ahead, or else a byte that is no LF.
+pub fn some(chunk: &[u8], i: usize, s: State, text: &mut [u8], out: &mut [u8], at: usize) -> Fed
+    requires { ⌜ (i < length (now chunk)) × NoEnd (getD (now chunk) i 0) × PartSound (s .part) (now text) × (length (now text) ≡ LONGEST-KEPT) × (at + MOST-TEXT ≤ length (now out)) ⌝ }
+    ensures { λ r. ⌜ WentInside s (now (text .entry)) (now (out .entry)) at (drop i (now (chunk .entry))) (r .state) (now (text .exit)) (now (out .exit)) (r .made) (drop (r .used) (now (chunk .entry))) × (i < r .used) × (r .used ≤ length (now (chunk .entry))) ⌝ }
 {
     let used = i + 1;
     let p = s.part;
@@ -46,19 +55,7 @@ pub fn some(
             made: at,
         };
     }
-    let t = one(
-        chunk[i],
-        s,
-        text,
-        kinds,
-        lengths,
-        bytes,
-        readings,
-        buffer,
-        log,
-        out,
-        at,
-    );
+    let t = one(chunk[i], s, text, out, at);
     let state = t.state;
     Fed {
         state,

@@ -1,30 +1,16 @@
 // The replay's reader: bytes in chunks of any size, calls run in order, answers out, in lent slices of fixed size.
 use bytes_step::Fed;
+use frames_step::line_feed;
 use frames_step::step;
-use frames_text::print;
-use reader::Part;
 use reader::State;
-use reader::fresh_slave;
-use reader_turns::line_feed;
-use session::enter::closed;
-ghost use mathlib.Core.Path.{_≡_};
+use whole_input::end_input;
+use whole_input::is_begun;
+use whole_input::is_stopped;
 ghost use Prim.Native.Nat.{_+_, _≤_};
 ghost use lib.ListN.{length};
-ghost use Rattle.frames_text.specs.Appended.{Appended};
 ghost use Rattle.calls.specs.Runs.{MOST-TEXT};
-ghost use Rattle.reader.specs.Rest.{whole, Sound, stopped-of, begun-of, end-text};
-ghost use Rattle.frames.specs.Fed.{start-state, FedAs, Finished};
-
-fn is_stopped(s: State) -> bool
-    ensures { λ r. ⌜ r ≡ stopped-of (s .part) ⌝ }
-{
-    let p = s.part;
-    match p {
-        Part::Stopped => true,
-        Part::Text(_) => false,
-        Part::Long(_) => false,
-    }
-}
+ghost use Rattle.reader.specs.Rest.{whole, Sound};
+ghost use Rattle.whole_input.specs.Fed.{FedAs, Finished};
 
 // Reads of the chunk what `out` has room for: each step is taken with room for the largest answer.
 pub fn feed(
@@ -75,44 +61,6 @@ pub fn feed(
         made = f.made;
     }
     Fed { state, used, made }
-}
-
-// The reader before the first byte.
-pub fn start() -> State
-    ensures { λ r. ⌜ r ≡ start-state ⌝ }
-{
-    State {
-        line: 1,
-        part: Part::Text(0),
-        call: closed(),
-        slave: fresh_slave(),
-    }
-}
-
-fn is_begun(s: State) -> bool
-    ensures { λ r. ⌜ r ≡ begun-of (s .part) ⌝ }
-{
-    let p = s.part;
-    match p {
-        Part::Stopped => false,
-        Part::Text(n) => 0 < n,
-        Part::Long(_) => true,
-    }
-}
-
-// The end of the input after whole lines.
-fn end_input(s: State, out: &mut [u8], at: usize) -> usize
-    requires { ⌜ at + 13 ≤ length (now out) ⌝ }
-    ensures { λ r. ⌜ Appended (now (out .entry)) at (end-text (stopped-of (s .part)) (s .call .busy) (s .line)) 13 (now (out .exit)) r ⌝ }
-{
-    if is_stopped(s) {
-        return at;
-    }
-    let call = s.call;
-    if call.busy {
-        return print::push_answer(out, at, 21, s.line);
-    }
-    at
 }
 
 // The end of the input. A last line without LF ends as if it had one.

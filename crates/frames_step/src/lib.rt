@@ -1,20 +1,66 @@
 // A step of the reader through a chunk: a run of readings, a line, or some bytes of a line.
-pub mod ahead; // whole lines of a chunk
-
-use ahead::fresh_line;
 use bytes_step::Fed;
+use bytes_step::ahead::fresh_line;
 use bytes_step::some;
+use reader::Part;
 use reader::State;
+use reader::Turn;
 use reader::turns::end_line;
+use reader::turns::end_long;
 use readings_run::after_run;
 use readings_run::run_readings;
 use session_lines::enter_line;
+ghost use mathlib.Core.Path.{_≡_};
+ghost use mathlib.Core.Bool.{false};
+ghost use mathlib.Core.List.{[], _∷_};
 ghost use Prim.Native.Nat.{_+_, _<_, _≤_};
 ghost use lib.ListN.{length, drop};
 ghost use Rattle.calls.specs.Runs.{MOST-TEXT};
-ghost use Rattle.reader.specs.Rest.{whole, Sound, Went};
+ghost use Rattle.reader.specs.Rest.{whole, Sound, Went, begun-of};
 
-// A whole line of the chunk, where one is ahead, or else some bytes.
+// An LF: it enters the line that it ends.
+pub fn line_feed(
+    s: State,
+    text: &[u8],
+    kinds: &mut [u8],
+    lengths: &mut [u16],
+    bytes: &mut [u8],
+    readings: &mut [u32],
+    buffer: &mut [u8],
+    log: &mut [u32],
+    out: &mut [u8],
+    at: usize,
+) -> Turn
+    requires { ⌜ Sound (whole s (now text) (now kinds) (now lengths) (now bytes) (now readings) (now buffer) (now log)) × (at + MOST-TEXT ≤ length (now out)) ⌝ }
+    ensures { λ r. ⌜ Went (whole s (now (text .entry)) (now (kinds .entry)) (now (lengths .entry)) (now (bytes .entry)) (now (readings .entry)) (now (buffer .entry)) (now (log .entry))) (now (out .entry)) at (10 ∷ []) (whole (r .state) (now (text .entry)) (now (kinds .exit)) (now (lengths .exit)) (now (bytes .exit)) (now (readings .exit)) (now (buffer .exit)) (now (log .exit))) (now (out .exit)) (r .made) [] × (r .made ≤ at + MOST-TEXT) × (begun-of (r .state .part) ≡ false) ⌝ }
+{
+    let p = s.part;
+    match p {
+        Part::Stopped => Turn { state: s, made: at },
+        Part::Text(n) => {
+            let call = s.call;
+            let slave = s.slave;
+            let line = &text[..n];
+            let e = enter_line(
+                line,
+                call,
+                slave,
+                kinds,
+                lengths,
+                bytes,
+                readings,
+                buffer,
+                log,
+                out,
+                at,
+            );
+            end_line(s.line, e, out, at)
+        }
+        Part::Long(odd) => end_long(odd, s, text, out, at),
+    }
+}
+
+// A whole line of the chunk, the end of a line that began before it, or else some bytes.
 fn line_or_bytes(
     chunk: &[u8],
     i: usize,
@@ -61,20 +107,28 @@ fn line_or_bytes(
             made: t.made,
         };
     }
-    some(
-        chunk,
-        i,
-        s,
-        text,
-        kinds,
-        lengths,
-        bytes,
-        readings,
-        buffer,
-        log,
-        out,
-        at,
-    )
+    if chunk[i] == 10 {
+        let used = i + 1;
+        let t = line_feed(
+            s,
+            text,
+            kinds,
+            lengths,
+            bytes,
+            readings,
+            buffer,
+            log,
+            out,
+            at,
+        );
+        let state = t.state;
+        return Fed {
+            state,
+            used,
+            made: t.made,
+        };
+    }
+    some(chunk, i, s, text, out, at)
 }
 
 // A run of readings, where one is ahead, or else a line or some bytes.

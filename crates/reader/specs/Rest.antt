@@ -1,4 +1,4 @@
--- What is still printed from a state of the reader on. Contracts cite this; that from the start it is what Session says, `every-split` shows (proofs/EverySplit.antt).
+-- What is still printed from a state of the reader on. Contracts cite this; that from the start it is what Session says, `every-split` shows (`whole_input/proofs/EverySplit.antt`).
 use Prim.Native.Nat.{ℕ, _+_, _≤_, _<_}
 use mathlib.Core.List.{List, [], _∷_, _++_}
 use mathlib.Core.Bool.{Bool, true, false, _&&_}

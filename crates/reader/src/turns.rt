@@ -1,4 +1,4 @@
-// What a byte of a line, and the end of a line, do to the reader's state. A whole line is entered in `reader_turns`.
+// What a byte of a line, and the end of a line, do to the reader's state. A whole line is entered in `frames_step`.
 use super::LONGEST_KEPT;
 use super::Part;
 use super::State;

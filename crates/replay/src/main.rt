@@ -1,6 +1,8 @@
 // Replays calls: frames on standard input, answers on standard output. What is written is what Session says of the input, by the contracts of `frames::feed`
 // and `frames::finish` and the claim `every-split` over them; here bytes are only moved.
-use replay_input::replay;
+mod input; // standard input, read to its end
+
+use libc::STDOUT_FILENO;
 
 fn main() {
     let mut chunk = io::large_buffer();
@@ -12,7 +14,7 @@ fn main() {
     let mut buffer = [0u8; 4096];
     let mut log = [0u32; 16384];
     let mut out = [0u8; 262144];
-    replay(
+    let last = input::read_all(
         &mut chunk,
         &mut text,
         &mut kinds,
@@ -23,4 +25,16 @@ fn main() {
         &mut log,
         &mut out,
     );
+    let made = frames::finish(
+        last,
+        &text,
+        &mut kinds,
+        &mut lengths,
+        &mut bytes,
+        &mut readings,
+        &mut buffer,
+        &mut log,
+        &mut out,
+    );
+    io::write_all(STDOUT_FILENO, &out[..made]);
 }

@@ -1,10 +1,10 @@
 -- `bytes_step::some` meets its contract.
-use borrow.Author.Needs.{needs}
-use Rattle.bytes_step.proofs.some.Statement.{statement}
-use Rattle.bytes_step.proofs.some.Tie as tie
 use native.Mathlib.Omega.{arith}
 use mathlib.Core.Path.{refl, _∙_}
 use Rattle.bytes_run.proofs.Moves.{moved, kept-text, byte-read}
+use borrow.Author.Needs.{needs}
+use Rattle.bytes_step.proofs.some.Statement.{statement}
+use Rattle.bytes_step.proofs.some.Tie as tie
 
 add-used : tie.Need-add-used
 add-used c = search needs
@@ -19,40 +19,22 @@ same-length : tie.Need-same-length
 same-length c = c .before .before .before .before .before .before .run .kept .1 .1 .1 .0
 
 returns : tie.Need-returns
-returns c = (rw (c .before .go-on .ensures) (moved _ _ _ _ _ _ _ _ _ _ _ (c .before .before .before .before .before .before .before .before .before .before .before .before .before .before .before .before .before .args .chunk .now) (c .before .before .before .before .before .before .before .before .before .before .before .before .before .before .before .before .before .args .i) (c .before .before .before .before .before .before .run .result) (c .before .before .before .before .before .before .before .before .before .before .before .before .before .before .before .before .before .pre .0) (c .before .before .before .before .before .before .run .ensures)), omega arith, c .before .before .if1 .taken, c .before .before .before .before .before .before .run .ensures .inside)
+returns c = rw (c .before .go-on .ensures) (λ a b l g. (moved _ _ _ (a .kinds) (a .lengths) (a .bytes) (a .readings) b l _ _ (c .before .before .before .before .before .before .before .before .before .before .before .args .chunk .now) (c .before .before .before .before .before .before .before .before .before .before .before .args .i) (c .before .before .before .before .before .before .run .result) g (c .before .before .before .before .before .before .run .ensures), omega arith), c .before .before .if1 .taken, c .before .before .before .before .before .before .run .ensures .inside)
 
 shared-slice-read-one : tie.Need-shared-slice-read-one
 shared-slice-read-one c = search needs
 
 one-requires : tie.Need-one-requires
-one-requires c κs = (rw (c .before .before .before .before .before .before .before .before .before .before .before .before .before .run .ensures .none (c .before .before .before .before .before .before .before .before .before .if1 .left)) (c .before .before .before .before .before .before .before .before .before .before .before .before .before .before .before .before .before .before .before .before .before .before .before .before .pre .0), c .before .before .before .before .before .before .before .before .before .before .before .before .before .before .before .before .before .before .before .before .before .before .before .before .pre .1)
+one-requires c κs = search needs
 
 same-length-2 : tie.Need-same-length-2
-same-length-2 c = c .before .before .before .before .before .before .before .before .before .before .before .before .before .before .before .before .before .one .kept .1 .1 .0 ∙ c .before .before .before .before .before .before .before .before .before .before .before .before .before .before .before .before .before .before .before .before .before .before .before .before .before .before .before .before .before .before .before .run .kept .1 .1 .1 .0
+same-length-2 c = c .before .before .before .before .before .one .kept .1 .1 .0 ∙ c .before .before .before .before .before .before .before .before .before .before .before .before .before .run .kept .1 .1 .1 .0
 
 same-length-3 : tie.Need-same-length-3
-same-length-3 c = c .before .before .before .before .before .before .before .before .before .before .before .before .before .before .before .before .before .one .kept .1 .1 .1 .0
-
-same-length-4 : tie.Need-same-length-4
-same-length-4 c = c .before .before .before .before .before .before .before .before .before .before .before .before .before .before .before .before .before .one .kept .1 .1 .1 .1 .0
-
-same-length-5 : tie.Need-same-length-5
-same-length-5 c = c .before .before .before .before .before .before .before .before .before .before .before .before .before .before .before .before .before .one .kept .1 .1 .1 .1 .1 .0
-
-same-length-6 : tie.Need-same-length-6
-same-length-6 c = c .before .before .before .before .before .before .before .before .before .before .before .before .before .before .before .before .before .one .kept .1 .1 .1 .1 .1 .1 .0
-
-same-length-7 : tie.Need-same-length-7
-same-length-7 c = c .before .before .before .before .before .before .before .before .before .before .before .before .before .before .before .before .before .one .kept .1 .1 .1 .1 .1 .1 .1 .0
-
-same-length-8 : tie.Need-same-length-8
-same-length-8 c = c .before .before .before .before .before .before .before .before .before .before .before .before .before .before .before .before .before .one .kept .1 .1 .1 .1 .1 .1 .1 .1 .0
-
-same-length-9 : tie.Need-same-length-9
-same-length-9 c = c .before .before .before .before .before .before .before .before .before .before .before .before .before .before .before .before .before .one .kept .1 .1 .1 .1 .1 .1 .1 .1 .1 .0
+same-length-3 c = search needs
 
 returns-2 : tie.Need-returns-2
-returns-2 c = (kept-text (c .before .before .before .before .before .before .before .before .before .before .before .before .before .before .before .before .before .before .before .before .before .before .before .before .before .before .before .before .before .before .before .run .ensures .none (c .before .before .before .before .before .before .before .before .before .before .before .before .before .before .before .before .before .before .before .before .before .before .before .before .before .before .before .if1 .left)) (byte-read (c .before .before .before .before .before .before .before .before .before .before .before .before .before .before .before .before .before .before .before .before .before .before .before .before .before .before .before .before .before .before .before .before .before .before .before .before .before .before .before .before .before .before .args .chunk .now) (c .before .before .before .before .before .before .before .before .before .before .before .before .before .before .before .before .before .before .before .before .before .before .before .before .before .before .before .before .before .before .before .before .before .before .before .before .before .before .before .before .before .before .args .i) (c .before .before .before .before .before .before .before .before .before .before .before .before .before .before .before .before .before .before .before .before .before .before .before .before .before .before .before .before .before .before .before .before .before .before .before .before .before .before .before .before .before .before .pre .2) refl (c .before .before .before .before .before .before .before .before .before .before .before .before .before .before .before .before .before .one .ensures .0)), c .before .before .before .before .before .before .before .before .before .before .before .before .before .before .before .before .before .one .ensures .1, omega arith, omega (arith, c .before .before .before .before .before .before .before .before .before .before .before .before .before .before .before .before .before .before .before .before .before .before .before .before .before .before .before .before .before .before .before .before .before .before .before .before .before .before .before .before .before .before .pre .2))
+returns-2 c = ((λ a b l g. (kept-text (c .before .before .before .before .before .before .before .before .before .before .before .before .before .run .ensures .none (c .before .before .before .before .before .before .before .before .before .if1 .left)) (byte-read (c .before .before .before .before .before .before .before .before .before .before .before .before .before .before .before .before .before .before .args .chunk .now) (c .before .before .before .before .before .before .before .before .before .before .before .before .before .before .before .before .before .before .args .i) (c .before .before .before .before .before .before .before .before .before .before .before .before .before .before .before .before .before .before .pre .0) refl (c .before .before .before .before .before .one .ensures a b l (rw (c .before .before .before .before .before .before .before .before .before .before .before .before .before .run .ensures .none (c .before .before .before .before .before .before .before .before .before .if1 .left)) g) .0)), c .before .before .before .before .before .one .ensures a b l (rw (c .before .before .before .before .before .before .before .before .before .before .before .before .before .run .ensures .none (c .before .before .before .before .before .before .before .before .before .if1 .left)) g) .1)), omega arith, omega (arith, c .before .before .before .before .before .before .before .before .before .before .before .before .before .before .before .before .before .before .pre .0))
 
 pub some-spec : {M : Type 1} → statement M
 some-spec =
@@ -67,10 +49,4 @@ some-spec =
     one-requires
     same-length-2
     same-length-3
-    same-length-4
-    same-length-5
-    same-length-6
-    same-length-7
-    same-length-8
-    same-length-9
     returns-2)

@@ -5,7 +5,7 @@ use Prim.Native.Nat.{_-_}
 use native.Mathlib.Omega.{arith}
 use lib.ListN.{length}
 use Rattle.reader.specs.Rest.{whole}
-use Rattle.frames.proofs.Feeds.{Feeding, fed-none, fed-all, fed-some, fed-stopped, fed-more}
+use Rattle.whole_input.proofs.Feeds.{Feeding, fed-none, fed-all, fed-some, fed-stopped, fed-more}
 use Rattle.frames.proofs.feed.Statement.{statement}
 use Rattle.frames.proofs.feed.Tie as tie
 

@@ -1,7 +1,7 @@
 -- `frames::finish` meets its contract.
 use native.Mathlib.Omega.{arith}
 use Rattle.session.specs.Enter.{arrays}
-use Rattle.frames.proofs.Feeds.{finished, finished-line}
+use Rattle.whole_input.proofs.Feeds.{finished, finished-line}
 use mathlib.Core.Path.{sym, _∙_}
 use borrow.Author.Needs.{needs}
 use Rattle.frames.proofs.finish.Statement.{statement}

@@ -1,12 +1,13 @@
 -- `frames_step::line_or_bytes` meets its contract.
-use borrow.Author.Needs.{needs}
-use Rattle.frames_step.proofs.line_or_bytes.Statement.{statement}
-use Rattle.frames_step.proofs.line_or_bytes.Tie as tie
-use mathlib.Core.Path.{_≡_, _∙_}
+use mathlib.Core.Path.{_≡_, sym, _∙_}
 use Prim.Native.Nat.{_+_, _-_}
 use native.Mathlib.Omega.{arith}
 use Rattle.session.specs.Enter.{arrays}
 use Rattle.reader.proofs.Steps.{ahead-short, line-read}
+use Rattle.bytes_run.proofs.Moves.{byte-read}
+use borrow.Author.Needs.{needs}
+use Rattle.frames_step.proofs.line_or_bytes.Statement.{statement}
+use Rattle.frames_step.proofs.line_or_bytes.Tie as tie
 
 fresh-line-requires : tie.Need-fresh-line-requires
 fresh-line-requires c κs = search needs
@@ -27,10 +28,10 @@ part-line-end : tie.Need-part-line-end
 part-line-end c = omega (arith, c .before .before .before .fresh-line .ensures .0 .inside (omega (arith, c .before .before .if1 .taken)))
 
 enter-line-requires : tie.Need-enter-line-requires
-enter-line-requires c κs = (c .before .before .before .before .before .before .before .before .before .before .before .before .before .before .before .before .before .before .before .before .before .pre .0 .small, c .before .before .before .before .before .before .before .before .before .before .before .before .before .before .before .before .before .before .before .before .before .pre .0 .lent, record { buffer = c .before .before .before .before .before .before .before .before .before .before .before .before .before .before .before .before .before .before .before .before .before .pre .0 .buffer; log = c .before .before .before .before .before .before .before .before .before .before .before .before .before .before .before .before .before .before .before .before .before .pre .0 .log; out = c .before .before .before .before .before .before .before .before .before .before .before .before .before .before .before .before .before .before .before .before .before .pre .1 }, ahead-short _ (c .before .before .before .before .before .before .before .before .before .before .before .before .before .before .before .before .before .before .before .before .before .args .i) (c .before .before .before .before .before .before .before .before .before .before .before .fresh-line .result) (c .before .before .before .before .before .before .before .before .before .before .if1 .taken))
+enter-line-requires c κs = let g = c .before .before .before .before .before .before .before .before .before .before .before .before .before .before .before .before .before .before .before .before .before .pre .0 in (g .small, g .lent, record { buffer = g .buffer; log = g .log; out = c .before .before .before .before .before .before .before .before .before .before .before .before .before .before .before .before .before .before .before .before .before .pre .1 }, ahead-short _ (c .before .before .before .before .before .before .before .before .before .before .before .before .before .before .before .before .before .before .before .before .before .args .i) (c .before .before .before .before .before .before .before .before .before .before .before .fresh-line .result) (c .before .before .before .before .before .before .before .before .before .before .if1 .taken))
 
 end-line-requires : tie.Need-end-line-requires
-end-line-requires c κs = search needs
+end-line-requires c κs = omega (arith, c .before .before .before .before .before .before .before .before .before .before .before .before .before .before .before .before .before .before .before .before .before .before .before .before .before .before .before .before .before .before .before .before .before .before .before .before .before .pre .1, c .before .before .before .before .before .before .before .before .before .before .before .before .before .before .before .enter-line .kept .1 .1 .1 .1 .1 .1 .1 .1 .1 .0)
 
 same-length : tie.Need-same-length
 same-length c = c .before .before .before .before .before .before .before .before .before .before .before .before .before .before .before .before .before .before .before .enter-line .kept .1 .1 .1 .0
@@ -54,37 +55,59 @@ same-length-7 : tie.Need-same-length-7
 same-length-7 c = c .before .before .before .end-line .kept .1 .1 .0 ∙ c .before .before .before .before .before .before .before .before .before .before .before .before .before .before .before .before .before .before .before .enter-line .kept .1 .1 .1 .1 .1 .1 .1 .1 .1 .0
 
 returns : tie.Need-returns
-returns c = let a = c .before .before .before .before .before .before .before .before .before .before .before .before .before .before .before .before .before .before .before .before .before .before .before .before .before .before .before .before .before .before .before .before .before .before .before .before .before .before .before .before .before .args in let n = c .before .before .before .before .before .before .before .before .before .before .before .before .before .before .before .before .before .before .before .before .before .before .before .before .before .before .before .before .before .before .before .fresh-line .result in let z : (a .i + n) - a .i ≡ n = omega arith in let d = line-read (a .s) (a .text .now) (arrays (a .kinds .now) (a .lengths .now) (a .bytes .now) (a .readings .now)) (a .buffer .now) (a .log .now) (c .before .before .before .before .before .before .before .before .before .before .before .before .before .before .before .before .before .before .before .before .before .before .before .before .before .before .before .before .before .before .before .before .before .before .before .before .before .before .before .before .before .pre .0) (a .out .now) (a .at) (c .before .before .before .before .before .before .before .before .before .before .before .before .before .before .before .before .before .before .before .before .before .before .before .before .before .before .before .before .before .before .before .fresh-line .ensures .1 (c .before .before .before .before .before .before .before .before .before .before .before .before .before .before .before .before .before .before .before .before .before .before .before .before .before .before .before .before .before .before .if1 .taken)) (a .chunk .now) (a .i) n (c .before .before .before .before .before .before .before .before .before .before .before .before .before .before .before .before .before .before .before .before .before .before .before .before .before .before .before .before .before .before .before .fresh-line .ensures .0) (c .before .before .before .before .before .before .before .before .before .before .before .before .before .before .before .before .before .before .before .before .before .before .before .before .before .before .before .before .before .before .if1 .taken) _ _ _ (c .before .before .before .before .before .before .before .before .before .before .before .before .before .before .before .before .before .before .before .enter-line .kept .1 .1 .1 .1 .1 .1 .1 .0 ∙ c .before .before .before .before .before .before .before .before .before .before .before .before .before .before .before .before .before .before .before .before .before .before .before .before .before .before .before .before .before .before .before .before .before .before .before .before .before .before .before .before .before .pre .0 .buffer) (c .before .before .before .before .before .before .before .before .before .before .before .before .before .before .before .before .before .before .before .enter-line .kept .1 .1 .1 .1 .1 .1 .1 .1 .0 ∙ c .before .before .before .before .before .before .before .before .before .before .before .before .before .before .before .before .before .before .before .before .before .before .before .before .before .before .before .before .before .before .before .before .before .before .before .before .before .before .before .before .before .pre .0 .log) _ _ _ _ (rw z at (c .before .before .before .before .before .before .before .before .before .before .before .before .before .before .before .before .before .before .before .enter-line .ensures)) (c .before .before .before .end-line .ensures) in (d .0, d .1, omega arith, omega (arith, c .before .before .before .before .before .before .before .before .before .before .before .before .before .before .before .before .before .before .before .before .before .before .before .before .before .before .before .before .before .before .before .fresh-line .ensures .0 .inside (omega (arith, c .before .before .before .before .before .before .before .before .before .before .before .before .before .before .before .before .before .before .before .before .before .before .before .before .before .before .before .before .before .before .if1 .taken))))
+returns c = let a = c .before .before .before .before .before .before .before .before .before .before .before .before .before .before .before .before .before .before .before .before .before .before .before .before .before .before .before .before .before .before .before .before .before .before .before .before .before .before .before .before .before .args in
+  let n = c .before .before .before .before .before .before .before .before .before .before .before .before .before .before .before .before .before .before .before .before .before .before .before .before .before .before .before .before .before .before .before .fresh-line .result in
+  let z : (a .i + n) - a .i ≡ n = omega arith in
+  let d = line-read (a .s) (a .text .now) (arrays (a .kinds .now) (a .lengths .now) (a .bytes .now) (a .readings .now)) (a .buffer .now) (a .log .now) (c .before .before .before .before .before .before .before .before .before .before .before .before .before .before .before .before .before .before .before .before .before .before .before .before .before .before .before .before .before .before .before .before .before .before .before .before .before .before .before .before .before .pre .0) (a .out .now) (a .at) (c .before .before .before .before .before .before .before .before .before .before .before .before .before .before .before .before .before .before .before .before .before .before .before .before .before .before .before .before .before .before .before .fresh-line .ensures .1 (c .before .before .before .before .before .before .before .before .before .before .before .before .before .before .before .before .before .before .before .before .before .before .before .before .before .before .before .before .before .before .if1 .taken)) (a .chunk .now) (a .i) n (c .before .before .before .before .before .before .before .before .before .before .before .before .before .before .before .before .before .before .before .before .before .before .before .before .before .before .before .before .before .before .before .fresh-line .ensures .0) (c .before .before .before .before .before .before .before .before .before .before .before .before .before .before .before .before .before .before .before .before .before .before .before .before .before .before .before .before .before .before .if1 .taken) _ _ _ (c .before .before .before .before .before .before .before .before .before .before .before .before .before .before .before .before .before .before .before .enter-line .kept .1 .1 .1 .1 .1 .1 .1 .0 ∙ c .before .before .before .before .before .before .before .before .before .before .before .before .before .before .before .before .before .before .before .before .before .before .before .before .before .before .before .before .before .before .before .before .before .before .before .before .before .before .before .before .before .pre .0 .buffer) (c .before .before .before .before .before .before .before .before .before .before .before .before .before .before .before .before .before .before .before .enter-line .kept .1 .1 .1 .1 .1 .1 .1 .1 .0 ∙ c .before .before .before .before .before .before .before .before .before .before .before .before .before .before .before .before .before .before .before .before .before .before .before .before .before .before .before .before .before .before .before .before .before .before .before .before .before .before .before .before .before .pre .0 .log) _ _ _ _ (rw z at (c .before .before .before .before .before .before .before .before .before .before .before .before .before .before .before .before .before .before .before .enter-line .ensures)) (c .before .before .before .end-line .ensures) in
+  (d .0, d .1, omega arith, omega (arith, c .before .before .before .before .before .before .before .before .before .before .before .before .before .before .before .before .before .before .before .before .before .before .before .before .before .before .before .before .before .before .before .fresh-line .ensures .0 .inside (omega (arith, c .before .before .before .before .before .before .before .before .before .before .before .before .before .before .before .before .before .before .before .before .before .before .before .before .before .before .before .before .before .before .if1 .taken))))
 
-some-requires : tie.Need-some-requires
-some-requires c κs = c .before .before .before .before .before .before .before .before .before .before .before .before .before .before .before .before .before .before .before .pre
+shared-slice-read-if2 : tie.Need-shared-slice-read-if2
+shared-slice-read-if2 c = search needs
+
+add-used-2 : tie.Need-add-used-2
+add-used-2 c = search needs
+
+line-feed-requires : tie.Need-line-feed-requires
+line-feed-requires c κs = (c .before .before .before .before .before .before .before .before .before .before .before .before .before .before .before .before .before .before .before .before .before .pre .0, c .before .before .before .before .before .before .before .before .before .before .before .before .before .before .before .before .before .before .before .before .before .pre .1)
 
 same-length-8 : tie.Need-same-length-8
-same-length-8 c = c .before .before .before .before .before .before .before .before .before .before .before .before .before .before .before .before .some .kept .1 .1 .1 .0
+same-length-8 c = search needs
 
 same-length-9 : tie.Need-same-length-9
-same-length-9 c = c .before .before .before .before .before .before .before .before .before .before .before .before .before .before .before .before .some .kept .1 .1 .1 .1 .0
+same-length-9 c = search needs
 
 same-length-10 : tie.Need-same-length-10
-same-length-10 c = c .before .before .before .before .before .before .before .before .before .before .before .before .before .before .before .before .some .kept .1 .1 .1 .1 .1 .0
+same-length-10 c = search needs
 
 same-length-11 : tie.Need-same-length-11
-same-length-11 c = c .before .before .before .before .before .before .before .before .before .before .before .before .before .before .before .before .some .kept .1 .1 .1 .1 .1 .1 .0
+same-length-11 c = search needs
 
 same-length-12 : tie.Need-same-length-12
-same-length-12 c = c .before .before .before .before .before .before .before .before .before .before .before .before .before .before .before .before .some .kept .1 .1 .1 .1 .1 .1 .1 .0
+same-length-12 c = search needs
 
 same-length-13 : tie.Need-same-length-13
-same-length-13 c = c .before .before .before .before .before .before .before .before .before .before .before .before .before .before .before .before .some .kept .1 .1 .1 .1 .1 .1 .1 .1 .0
+same-length-13 c = search needs
 
 same-length-14 : tie.Need-same-length-14
-same-length-14 c = c .before .before .before .before .before .before .before .before .before .before .before .before .before .before .before .before .some .kept .1 .1 .1 .1 .1 .1 .1 .1 .1 .0
+same-length-14 c = search needs
 
 same-length-15 : tie.Need-same-length-15
-same-length-15 c = c .before .before .before .before .before .before .before .before .before .before .before .before .before .before .before .before .some .kept .1 .1 .1 .1 .1 .1 .1 .1 .1 .1 .0
+same-length-15 c = search needs
 
 returns-2 : tie.Need-returns-2
-returns-2 c = c .before .before .before .before .before .before .before .before .before .before .before .before .before .before .before .before .some .ensures
+returns-2 c = (byte-read (c .before .before .before .before .before .before .before .before .before .before .before .before .before .before .before .before .before .before .before .before .before .before .before .before .before .before .before .before .before .before .before .before .before .before .before .before .before .args .chunk .now) (c .before .before .before .before .before .before .before .before .before .before .before .before .before .before .before .before .before .before .before .before .before .before .before .before .before .before .before .before .before .before .before .before .before .before .before .before .before .args .i) (c .before .before .before .before .before .before .before .before .before .before .before .before .before .before .before .before .before .before .before .before .before .before .before .before .before .before .before .before .before .before .before .before .before .before .before .before .before .pre .2) (sym (c .before .before .before .before .before .before .before .before .before .before .before .before .before .before .before .before .before .before .before .before .before .before .before .before .if2 .taken)) (c .before .before .before .before .before .before .before .before .before .before .before .before .before .before .before .line-feed .ensures .0), c .before .before .before .before .before .before .before .before .before .before .before .before .before .before .before .line-feed .ensures .1, omega arith, omega (arith, c .before .before .before .before .before .before .before .before .before .before .before .before .before .before .before .before .before .before .before .before .before .before .before .before .before .before .before .before .before .before .before .before .before .before .before .before .before .pre .2))
+
+some-requires : tie.Need-some-requires
+some-requires c κs = (c .before .before .before .before .before .before .before .before .before .before .before .before .before .before .before .pre .2, c .before .before .if2 .left, c .before .before .before .before .before .before .before .before .before .before .before .before .before .before .before .pre .0 .part, c .before .before .before .before .before .before .before .before .before .before .before .before .before .before .before .pre .0 .text, c .before .before .before .before .before .before .before .before .before .before .before .before .before .before .before .pre .1)
+
+same-length-16 : tie.Need-same-length-16
+same-length-16 c = search needs
+
+same-length-17 : tie.Need-same-length-17
+same-length-17 c = search needs
+
+returns-3 : tie.Need-returns-3
+returns-3 c = let a = c .before .before .before .before .before .before .before .before .before .before .before .before .before .before .before .before .before .before .before .before .args in let d = c .before .before .before .before .some .ensures .0 (arrays (a .kinds .now) (a .lengths .now) (a .bytes .now) (a .readings .now)) (a .buffer .now) (a .log .now) (c .before .before .before .before .before .before .before .before .before .before .before .before .before .before .before .before .before .before .before .before .pre .0) in (d .0, d .1, c .before .before .before .before .some .ensures .1, c .before .before .before .before .some .ensures .2)
 
 pub line-or-bytes-spec : {M : Type 1} → statement M
 line-or-bytes-spec =
@@ -106,7 +129,9 @@ line-or-bytes-spec =
     same-length-6
     same-length-7
     returns
-    some-requires
+    shared-slice-read-if2
+    add-used-2
+    line-feed-requires
     same-length-8
     same-length-9
     same-length-10
@@ -115,4 +140,8 @@ line-or-bytes-spec =
     same-length-13
     same-length-14
     same-length-15
-    returns-2)
+    returns-2
+    some-requires
+    same-length-16
+    same-length-17
+    returns-3)

@@ -1,8 +1,8 @@
 -- `frames_step::step` meets its contract.
-use borrow.Author.Needs.{needs}
-use mathlib.Core.Path.{_∙_}
 use native.Mathlib.Omega.{arith}
-use Rattle.frames_step.proofs.Bytes.{stored-none}
+use mathlib.Core.Path.{_∙_}
+use Rattle.frames_step.proofs.Bytes.{stored-none, still-sound}
+use borrow.Author.Needs.{needs}
 use Rattle.frames_step.proofs.step.Statement.{statement}
 use Rattle.frames_step.proofs.step.Tie as tie
 
@@ -19,7 +19,7 @@ returns : tie.Need-returns
 returns c = rw (c .after-run .ensures) (c .before .before .before .before .before .run-readings .ensures .some (c .before .if1 .taken) _ _ _ _ _ _ _ _ (c .before .before .before .before .before .before .before .before .before .before .before .before .before .before .before .before .pre .0), omega arith, c .before .if1 .taken, c .before .before .before .before .before .run-readings .ensures .inside)
 
 line-or-bytes-requires : tie.Need-line-or-bytes-requires
-line-or-bytes-requires c κs = (rw (c .before .before .before .before .before .before .before .before .before .before .before .before .run-readings .ensures .none (c .before .before .before .before .before .before .before .before .if1 .left)) (c .before .before .before .before .before .before .before .before .before .before .before .before .before .before .before .before .before .before .before .before .before .before .before .pre .0), c .before .before .before .before .before .before .before .before .before .before .before .before .before .before .before .before .before .before .before .before .before .before .before .pre .1, c .before .before .before .before .before .before .before .before .before .before .before .before .before .before .before .before .before .before .before .before .before .before .before .pre .2)
+line-or-bytes-requires c κs = (still-sound (c .before .before .before .before .before .before .before .before .before .before .before .before .run-readings .ensures .none (c .before .before .before .before .before .before .before .before .if1 .left)) (c .before .before .before .before .before .before .before .before .before .before .before .before .before .before .before .before .before .before .before .before .before .before .before .pre .0), c .before .before .before .before .before .before .before .before .before .before .before .before .before .before .before .before .before .before .before .before .before .before .before .pre .1, c .before .before .before .before .before .before .before .before .before .before .before .before .before .before .before .before .before .before .before .before .before .before .before .pre .2)
 
 same-length-2 : tie.Need-same-length-2
 same-length-2 c = c .before .before .before .before .before .before .before .before .before .before .before .before .before .before .before .before .line-or-bytes .kept .1 .1 .1 .0
@@ -46,7 +46,7 @@ same-length-9 : tie.Need-same-length-9
 same-length-9 c = c .before .before .before .before .before .before .before .before .before .before .before .before .before .before .before .before .line-or-bytes .kept .1 .1 .1 .1 .1 .1 .1 .1 .1 .1 .0
 
 returns-2 : tie.Need-returns-2
-returns-2 c = (stored-none (c .before .before .before .before .before .before .before .before .before .before .before .before .before .before .before .before .before .before .before .before .before .before .before .before .before .before .before .before .before .run-readings .ensures .none (c .before .before .before .before .before .before .before .before .before .before .before .before .before .before .before .before .before .before .before .before .before .before .before .before .before .if1 .left)) (c .before .before .before .before .before .before .before .before .before .before .before .before .before .before .before .before .line-or-bytes .ensures .0), c .before .before .before .before .before .before .before .before .before .before .before .before .before .before .before .before .line-or-bytes .ensures .1, c .before .before .before .before .before .before .before .before .before .before .before .before .before .before .before .before .line-or-bytes .ensures .2, c .before .before .before .before .before .before .before .before .before .before .before .before .before .before .before .before .line-or-bytes .ensures .3)
+returns-2 c = let d = c .before .before .before .before .before .before .before .before .before .before .before .before .before .before .before .before .line-or-bytes .ensures in (stored-none (c .before .before .before .before .before .before .before .before .before .before .before .before .before .before .before .before .before .before .before .before .before .before .before .before .before .before .before .before .before .run-readings .ensures .none (c .before .before .before .before .before .before .before .before .before .before .before .before .before .before .before .before .before .before .before .before .before .before .before .before .before .if1 .left)) (d .0), d .1, d .2, d .3)
 
 pub step-spec : {M : Type 1} → statement M
 step-spec =

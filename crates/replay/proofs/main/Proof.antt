@@ -1,7 +1,8 @@
 -- `replay::main` meets its contract.
 use Prim.Native.Nat.{ℕ, _≤_}
-use mathlib.Core.Path.{_≡_, subst⁻¹}
+use mathlib.Core.Path.{_≡_, sym, subst⁻¹, _∙_}
 use lib.ListN.{length, replicate, length-replicate}
+use lib.Seq.{length-take-le}
 use native.Mathlib.Omega.{arith}
 use borrow.Author.Needs.{needs}
 use Rattle.replay.proofs.main.Statement.{statement}
@@ -10,38 +11,78 @@ use Rattle.replay.proofs.main.Tie as tie
 size : (n : ℕ) → length (replicate {A = ℕ} n 0) ≡ n
 size n = length-replicate {A = ℕ} n 0
 
+-- `out` has room for the longest answer and the end of the input
+room : 114717 ≤ length (replicate {A = ℕ} 262144 0)
+room = subst⁻¹ (λ (n : ℕ). 114717 ≤ n) (size 262144) (omega arith)
+
 large-buffer-requires : tie.Need-large-buffer-requires
 large-buffer-requires c κs = search needs
 
-slice-aggregate-replay : tie.Need-slice-aggregate-replay
-slice-aggregate-replay c = search needs
+slice-aggregate-read-all : tie.Need-slice-aggregate-read-all
+slice-aggregate-read-all c = search needs
 
-slice-aggregate-replay-2 : tie.Need-slice-aggregate-replay-2
-slice-aggregate-replay-2 c = search needs
+slice-aggregate-read-all-2 : tie.Need-slice-aggregate-read-all-2
+slice-aggregate-read-all-2 c = search needs
 
-slice-aggregate-replay-3 : tie.Need-slice-aggregate-replay-3
-slice-aggregate-replay-3 c = search needs
+slice-aggregate-read-all-3 : tie.Need-slice-aggregate-read-all-3
+slice-aggregate-read-all-3 c = search needs
 
-slice-aggregate-replay-4 : tie.Need-slice-aggregate-replay-4
-slice-aggregate-replay-4 c = search needs
+slice-aggregate-read-all-4 : tie.Need-slice-aggregate-read-all-4
+slice-aggregate-read-all-4 c = search needs
 
-slice-aggregate-replay-5 : tie.Need-slice-aggregate-replay-5
-slice-aggregate-replay-5 c = search needs
+slice-aggregate-read-all-5 : tie.Need-slice-aggregate-read-all-5
+slice-aggregate-read-all-5 c = search needs
 
-slice-aggregate-replay-6 : tie.Need-slice-aggregate-replay-6
-slice-aggregate-replay-6 c = search needs
+slice-aggregate-read-all-6 : tie.Need-slice-aggregate-read-all-6
+slice-aggregate-read-all-6 c = search needs
 
-slice-aggregate-replay-7 : tie.Need-slice-aggregate-replay-7
-slice-aggregate-replay-7 c = search needs
+slice-aggregate-read-all-7 : tie.Need-slice-aggregate-read-all-7
+slice-aggregate-read-all-7 c = search needs
 
-slice-aggregate-replay-8 : tie.Need-slice-aggregate-replay-8
-slice-aggregate-replay-8 c = search needs
+slice-aggregate-read-all-8 : tie.Need-slice-aggregate-read-all-8
+slice-aggregate-read-all-8 c = search needs
 
-slice-aggregate-replay-9 : tie.Need-slice-aggregate-replay-9
-slice-aggregate-replay-9 c = search needs
+slice-aggregate-read-all-9 : tie.Need-slice-aggregate-read-all-9
+slice-aggregate-read-all-9 c = search needs
 
-replay-requires : tie.Need-replay-requires
-replay-requires c κs = (size 8198, record { kinds = size 64; lengths = size 64; bytes = size 4096; readings = size 8192 }, size 4096, size 16384, subst⁻¹ (λ (n : ℕ). 114717 ≤ n) (size 262144) (omega arith))
+read-all-requires : tie.Need-read-all-requires
+read-all-requires c κs = (size 8198, record { kinds = size 64; lengths = size 64; bytes = size 4096; readings = size 8192 }, size 4096, size 16384, room)
+
+slice-aggregate-finish : tie.Need-slice-aggregate-finish
+slice-aggregate-finish c = search needs
+
+slice-aggregate-finish-2 : tie.Need-slice-aggregate-finish-2
+slice-aggregate-finish-2 c = search needs
+
+slice-aggregate-finish-3 : tie.Need-slice-aggregate-finish-3
+slice-aggregate-finish-3 c = search needs
+
+slice-aggregate-finish-4 : tie.Need-slice-aggregate-finish-4
+slice-aggregate-finish-4 c = search needs
+
+slice-aggregate-finish-5 : tie.Need-slice-aggregate-finish-5
+slice-aggregate-finish-5 c = search needs
+
+slice-aggregate-finish-6 : tie.Need-slice-aggregate-finish-6
+slice-aggregate-finish-6 c = search needs
+
+slice-aggregate-finish-7 : tie.Need-slice-aggregate-finish-7
+slice-aggregate-finish-7 c = search needs
+
+slice-aggregate-finish-8 : tie.Need-slice-aggregate-finish-8
+slice-aggregate-finish-8 c = search needs
+
+finish-requires : tie.Need-finish-requires
+finish-requires c κs = (c .before .before .before .before .before .before .before .before .before .before .before .before .before .before .before .before .before .read-all .ensures, subst⁻¹ (λ (n : ℕ). 114717 ≤ n) (c .before .before .before .before .before .before .before .before .before .before .before .before .before .before .before .before .before .read-all .kept .1 .1 .1 .1 .1 .1 .1 .1 .0) room)
+
+array-share-prefix-out : tie.Need-array-share-prefix-out
+array-share-prefix-out c = c .before .before .before .before .before .before .before .finish .ensures .made
+
+slice-aggregate-write-all : tie.Need-slice-aggregate-write-all
+slice-aggregate-write-all c = sym (length-take-le _ _ (c .before .before .before .before .before .before .before .before .finish .ensures .made))
+
+write-all-requires : tie.Need-write-all-requires
+write-all-requires c κs = search needs
 
 returns : tie.Need-returns
 returns c = search needs
@@ -51,14 +92,26 @@ main-spec =
     tie.close
     (tie.spec
     large-buffer-requires
-    slice-aggregate-replay
-    slice-aggregate-replay-2
-    slice-aggregate-replay-3
-    slice-aggregate-replay-4
-    slice-aggregate-replay-5
-    slice-aggregate-replay-6
-    slice-aggregate-replay-7
-    slice-aggregate-replay-8
-    slice-aggregate-replay-9
-    replay-requires
+    slice-aggregate-read-all
+    slice-aggregate-read-all-2
+    slice-aggregate-read-all-3
+    slice-aggregate-read-all-4
+    slice-aggregate-read-all-5
+    slice-aggregate-read-all-6
+    slice-aggregate-read-all-7
+    slice-aggregate-read-all-8
+    slice-aggregate-read-all-9
+    read-all-requires
+    slice-aggregate-finish
+    slice-aggregate-finish-2
+    slice-aggregate-finish-3
+    slice-aggregate-finish-4
+    slice-aggregate-finish-5
+    slice-aggregate-finish-6
+    slice-aggregate-finish-7
+    slice-aggregate-finish-8
+    finish-requires
+    array-share-prefix-out
+    slice-aggregate-write-all
+    write-all-requires
     returns)
