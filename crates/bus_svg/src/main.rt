@@ -2,9 +2,9 @@
 // anything on the bus; it is what svg_text's Picture says of that call's writes, by the contracts of `explain_bus::kept::keep` and `svg_picture::picture`. A line that is
 // no answer frame is told with its number on standard error. The lines are what line_input's Handed says, by the contract of `line_input::next_line`. Here they are only
 // moved.
-use explain_text::frame::frame_in;
-use explain_text::frame::is_answer;
-use explain_text::frame::is_unknown;
+use answer_frames::frame_in;
+use answer_frames::is_answer;
+use answer_frames::is_unknown;
 use libc::STDERR_FILENO;
 use libc::STDOUT_FILENO;
 use line_input::next_line;

@@ -1,5 +1,7 @@
 // What a run left, printed.
 use frames_text::print;
+use log_text::push_log;
+use log_text::push_reply;
 use regs::access::Ran;
 ghost use mathlib.Core.Path.{_≡_};
 ghost use mathlib.Core.List.{_++_};
@@ -47,8 +49,8 @@ pub fn push_outcome(
     requires { ⌜ (at + (13 * ran .entries + (3 + 2 * length (now buffer) + 13)) ≤ length (now out)) × (ran .entries * 2 ≤ length (now log)) ⌝ }
     ensures { λ r. ⌜ Appended (now (out .entry)) at (log-text (decode (take (ran .entries * 2) (now (log .entry)))) ++ (shown buffered (ran .reply) (now (buffer .entry)) ++ reply-text (ran .reply))) (13 * ran .entries + (3 + 2 * length (now (buffer .entry)) + 13)) (now (out .exit)) r ⌝ }
 {
-    let a = print::push_log(out, at, log, ran.entries);
+    let a = push_log(out, at, log, ran.entries);
     let reply = ran.reply;
-    let b = push_shown(out, a, buffered, regs::answers::number_of(reply), buffer);
-    print::push_reply(out, b, reply)
+    let b = push_shown(out, a, buffered, answer_numbers::number_of(reply), buffer);
+    push_reply(out, b, reply)
 }

@@ -45,7 +45,7 @@ fn end_line(
     out: &mut [u8],
 ) -> Call {
     let before = call.transfer;
-    if explain_text::frame::is_answer(explain_text::frame::frame_in(line)) {
+    if answer_frames::is_answer(answer_frames::frame_in(line)) {
         say_bus(log, call.used, places, out);
         say_line(line, number, before, out);
         return Call {

@@ -9,10 +9,10 @@ use Rattle.regs.specs.Log.{decode}
 use Rattle.bus.specs.Bus.{Sign, START, RESTART, STOP, address-byte, written, read-slot, bus-sequence}
 use Rattle.frames_text.specs.Text.{LF, hex2}
 use Rattle.decimal_text.specs.Decimal.{digits}
-use Rattle.explain_text.specs.Texts.{cell}
-use Rattle.explain_text.specs.Frames.{frame-of}
-use Rattle.explain_text.specs.declared.frame.Frame.{Frame}
-use Rattle.explain_text.specs.declared.frame.Frame.the-variants.{Read, Write, Pending, BlockReset, Buffer, Answer, Unknown}
+use Rattle.text_rows.specs.Rows.{cell}
+use Rattle.answer_frames.specs.Frames.{frame-of}
+use Rattle.answer_frames.specs.declared.Frame.{Frame}
+use Rattle.answer_frames.specs.declared.Frame.the-variants.{Read, Write, Pending, BlockReset, Buffer, Answer, Unknown}
 
 -- the two words of a log's entry that a frame adds: of a write, and from the write to TAR on. Only a master's calls write TAR.
 abbrev pub kept-of : ℕ → Frame → List ℕ

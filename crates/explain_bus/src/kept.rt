@@ -1,6 +1,6 @@
 // The log of a transfer, from its frames.
-use explain_text::frame::Frame;
-use explain_text::frame::frame_in;
+use answer_frames::Frame;
+use answer_frames::frame_in;
 ghost use Prim.Native.Nat.{_+_, _%_, _<_, _≤_};
 ghost use lib.ListN.{length};
 ghost use Rattle.frames_text.specs.Appended.{Appended};

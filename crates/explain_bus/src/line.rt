@@ -1,8 +1,8 @@
 // The bus sequence of a transfer as text. Each function puts its text at `at` of a lent buffer and returns where the text ends.
 use decimal_text::push_digits;
-use explain_text::rows::push_cell;
 use frames_text::print::push;
 use frames_text::print::push2;
+use text_rows::push_cell;
 ghost use mathlib.Core.Path.{_≡_};
 ghost use Prim.Native.Nat.{_+_, _*_, _<_, _≤_};
 ghost use lib.ListN.{length, take};

@@ -1,4 +1,3 @@
 -- What is printed for a line of the replay's answers.
 pub mod Tables
-pub mod Frames
 pub mod Texts

@@ -6,27 +6,11 @@ use lib.Dec.{eqb, ltb}
 use lib.ListN.{length, take, drop}
 use Rattle.regs.specs.Program.{if_then_else_}
 use Rattle.frames_text.specs.Text.{LF, hex2, hex8}
-use Rattle.explain_text.specs.declared.frame.Frame.{Frame}
-use Rattle.explain_text.specs.declared.frame.Frame.the-variants.{Read, Write, Pending, BlockReset, Buffer, Answer, Unknown}
-use Rattle.explain_text.specs.Frames.{frame-of}
+use Rattle.answer_frames.specs.declared.Frame.{Frame}
+use Rattle.answer_frames.specs.declared.Frame.the-variants.{Read, Write, Pending, BlockReset, Buffer, Answer, Unknown}
+use Rattle.answer_frames.specs.Frames.{frame-of}
+use Rattle.text_rows.specs.Rows.{cell, flags, spaced}
 use Rattle.explain_text.specs.Tables.{names, con-flags, command-flags, interrupts-flags, status-flags, aborts-flags, words, answers}
-
--- what stands before the first dot (46)
-unfoldable pub until-dot : List ℕ → List ℕ
-until-dot [] = []
-until-dot (c ∷ cs) = if eqb c 46 then [] else c ∷ until-dot cs
-
--- the text of a row
-unfoldable pub cell : List ℕ → ℕ → ℕ → List ℕ
-cell table width row = until-dot (take width (drop (row * width) table))
-
-abbrev pub flag : List ℕ → ℕ → Bool → List ℕ
-flag table row set = if set then 32 ∷ cell table 24 row else []
-
--- the names of the flags that are set, of n flags from a row on: bit 0 of w belongs to the first, and a space stands before each
-unfoldable pub flags : List ℕ → ℕ → ℕ → ℕ → List ℕ
-flags table zero row w = []
-flags table (suc n) row w = flag table row (eqb (w % 2) 1) ++ flags table n (row + 1) (w / 2)
 
 -- the fields of a register's value: of STATUS and TX_ABRT_SOURCE
 unfoldable pub state-fields : ℕ → ℕ → List ℕ
@@ -53,12 +37,6 @@ access-text word offset w = access-words word offset w ++ (LF ∷ [])
 
 unfoldable pub mark-text : ℕ → List ℕ
 mark-text word = cell words 12 word ++ (LF ∷ [])
-
--- digits by pairs, a space before each
-unfoldable pub spaced : List ℕ → List ℕ
-spaced [] = []
-spaced (c ∷ []) = []
-spaced (c ∷ d ∷ cs) = 32 ∷ c ∷ d ∷ spaced cs
 
 unfoldable pub buffer-text : List ℕ → List ℕ
 buffer-text line = cell words 12 4 ++ (spaced (drop 2 line) ++ (LF ∷ []))

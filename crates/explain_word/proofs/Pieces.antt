@@ -17,8 +17,8 @@ use Rattle.bus.specs.declared.Bus.the-variants.{Idle}
 use Rattle.bus.specs.declared.Written.the-variants.{Nothing, Value}
 use Rattle.bus.specs.Bus.{signs, written-to, bus-sequence}
 use Rattle.bus.specs.Placed.{made, moved}
-use Rattle.explain_text.specs.declared.frame.Frame.{Frame}
-use Rattle.explain_text.specs.declared.frame.Frame.the-variants.{Read, Write, Pending, BlockReset, Buffer, Answer, Unknown}
+use Rattle.answer_frames.specs.declared.Frame.{Frame}
+use Rattle.answer_frames.specs.declared.Frame.the-variants.{Read, Write, Pending, BlockReset, Buffer, Answer, Unknown}
 use Rattle.explain_word.specs.declared.transfer.Transfer.the-variants.{No, To}
 use Rattle.explain_word.specs.Piece.{opened, pieces, kept-from}
 

@@ -13,9 +13,9 @@ use Rattle.bus.specs.declared.Written.the-variants.{Nothing, Value}
 use Rattle.bus.specs.Bus.{Sign, signs-of}
 use Rattle.bus.specs.Placed.{made, moved}
 use Rattle.frames_text.specs.Text.{LF}
-use Rattle.explain_text.specs.declared.frame.Frame.{Frame}
-use Rattle.explain_text.specs.declared.frame.Frame.the-variants.{Read, Write, Pending, BlockReset, Buffer, Answer, Unknown}
-use Rattle.explain_text.specs.Frames.{frame-of}
+use Rattle.answer_frames.specs.declared.Frame.{Frame}
+use Rattle.answer_frames.specs.declared.Frame.the-variants.{Read, Write, Pending, BlockReset, Buffer, Answer, Unknown}
+use Rattle.answer_frames.specs.Frames.{frame-of}
 use Rattle.explain_text.specs.Texts.{access-words, explained}
 use Rattle.explain_bus.specs.Line.{kept-of, signs-text}
 use Rattle.explain_word.specs.declared.transfer.Transfer.{Transfer}

@@ -7,8 +7,8 @@ use bus::Written;
 use explain_bus::line::push_kind;
 use explain_bus::line::push_name;
 use explain_bus::line::push_run;
-use explain_text::text::explain;
-use explain_text::text::push_words;
+use explain_text::explain;
+use explain_text::push_words;
 use frames_text::print::push;
 use frames_text::print::push2;
 use regs::fields::byte_of;
@@ -134,7 +134,7 @@ fn explain_after(bus: Bus, address: u32, line: &[u8], out: &mut [u8]) -> usize
     match written(line, regs::DATA_CMD) {
         Written::Nothing => explain(line, out),
         Written::Value(w) => {
-            if out.len() < explain_text::text::ROOM {
+            if out.len() < explain_text::ROOM {
                 return 0;
             }
             push_word(out, bus, address, w)

@@ -1,10 +1,10 @@
 // What stands before a frame of a call, as far as it decides what a word makes of the bus.
+use answer_frames::Frame;
+use answer_frames::frame_in;
 use bus::Bus;
 use bus::Written;
-use explain_text::frame::Frame;
-use explain_text::frame::frame_in;
 ghost use mathlib.Core.Path.{_≡_};
-ghost use Rattle.explain_text.specs.Frames.{frame-of};
+ghost use Rattle.answer_frames.specs.Frames.{frame-of};
 ghost use Rattle.bus.specs.Placed.{moved};
 ghost use Rattle.explain_word.specs.Piece.{written-in, opened, next};
 

@@ -42,8 +42,8 @@ pub fn told(ran: Ran) -> Report
 {
     let reply = ran.reply;
     Report {
-        number: regs::answers::number_of(reply),
-        detail: regs::answers::detail_of(reply),
+        number: answer_numbers::number_of(reply),
+        detail: answer_numbers::detail_of(reply),
         entries: ran.entries,
         used: ran.used,
     }

@@ -50,8 +50,8 @@ fn told_access(n: Next) -> Access
         Next::Finished(a) => Access {
             kind: 0,
             register: 0,
-            number: regs::answers::number_of(Reply::Answered(a)),
-            value: regs::answers::detail_of(Reply::Answered(a)),
+            number: answer_numbers::number_of(Reply::Answered(a)),
+            value: answer_numbers::detail_of(Reply::Answered(a)),
         },
     }
 }

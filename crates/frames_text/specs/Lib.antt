@@ -3,4 +3,3 @@ pub mod Text
 pub mod Print
 pub mod Appended
 pub mod Pairs
-pub mod Shown

@@ -1,10 +1,7 @@
 // A whole line of the input, entered.
 use calls::Done;
-use frames_text::digits::is_pairs;
-use frames_text::digits::put_bytes;
 use frames_text::print;
 use lines::Head;
-use lines::Line;
 use lines::Short;
 use lines::head_of;
 use lines::plain;
@@ -12,19 +9,18 @@ use lines::width;
 use session::Entered;
 use session::Open;
 use session::enter::closed;
-use session::enter::enter_bytes;
 use session::enter::enter_call;
 use session::enter::enter_read;
 use session::enter::enter_reading;
 use session::is_complete;
+use session_bytes::enter_pairs;
 use slave_state::SlaveState;
-ghost use mathlib.Core.Path.{_≡_};
 ghost use lib.ListN.{length};
 ghost use Prim.Native.Nat.{_≤_};
 ghost use Rattle.lines.specs.Frame.{run, frame-of};
 ghost use Rattle.lines.specs.Short.{as-frame};
 ghost use Rattle.session.specs.Bounded.{next-held};
-ghost use Rattle.session.specs.Enter.{arrays, session-of, Small, Lent, Workspace, EnteredAs, CalledAs, PairsAs, LONGEST-KEPT};
+ghost use Rattle.session.specs.Enter.{arrays, session-of, Small, Lent, Workspace, EnteredAs, CalledAs, LONGEST-KEPT};
 
 // The end of a call: it is run, or refused with 20.
 fn run_call(
@@ -116,28 +112,6 @@ fn enter(
         Short::Run => enter_run(o, s, kinds, lengths, bytes, readings, buffer, log, out, at),
         Short::Bad => Entered::Malformed,
     }
-}
-
-// A frame that ends in bytes, of which `ds` are the digits.
-fn enter_pairs(
-    l: Line,
-    ds: &[u8],
-    o: Open,
-    s: SlaveState,
-    kinds: &mut [u8],
-    lengths: &mut [u16],
-    bytes: &mut [u8],
-    at: usize,
-) -> Entered
-    requires { ⌜ Small o × (length (now bytes) ≡ 4096) × (length (now ds) ≤ LONGEST-KEPT) ⌝ }
-    ensures { λ r. ⌜ PairsAs l (now (ds .entry)) o s (now (kinds .entry)) (now (lengths .entry)) (now (bytes .entry)) (now (kinds .exit)) (now (lengths .exit)) (now (bytes .exit)) at r ⌝ }
-{
-    if is_pairs(ds) {
-        let n = o.counts;
-        put_bytes(ds, bytes, n.bytes);
-        return enter_bytes(l, ds.len() / 2, o, s, kinds, lengths, at);
-    }
-    Entered::Malformed
 }
 
 // A line of the input, without its LF.

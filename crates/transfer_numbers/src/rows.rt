@@ -212,8 +212,8 @@ fn of_answer(a: Answer) -> Place
     let reply = Reply::Answered(a);
     at(
         8,
-        super::wide8(regs::answers::number_of(reply)),
-        regs::answers::detail_of(reply),
+        super::wide8(answer_numbers::number_of(reply)),
+        answer_numbers::detail_of(reply),
         at_index(0, 0, 0),
     )
 }

@@ -3,7 +3,7 @@ use borrow.Author.Needs.{needs}
 use lib.ListN.{length}
 use Prim.Native.Nat.{_-_}
 use native.Mathlib.Omega.{arith}
-use Rattle.frames_text.proofs.Entries.{Listing, no-byte, more-bytes, all-bytes}
+use Rattle.frames_text.proofs.Buffers.{Listing, no-byte, more-bytes, all-bytes}
 use Rattle.frames_text.proofs.print.push_bytes.Statement.{statement}
 use Rattle.frames_text.proofs.print.push_bytes.Tie as tie
 

@@ -1,0 +1,2 @@
+-- Lines of answers as frames.
+pub mod Frames

@@ -1,0 +1,23 @@
+-- `explain_text::push_access` meets its contract.
+use native.Mathlib.Omega.{arith}
+use Rattle.frames_text.proofs.Appends.{then, within}
+use Rattle.explain_text.specs.Texts.{access-text}
+use borrow.Author.Needs.{needs}
+use Rattle.explain_text.proofs.push_access.Statement.{statement}
+use Rattle.explain_text.proofs.push_access.Tie as tie
+
+push-words-requires : tie.Need-push-words-requires
+push-words-requires c κs = search needs
+
+push-requires : tie.Need-push-requires
+push-requires c κs = search needs
+
+same-length : tie.Need-same-length
+same-length c = search needs
+
+returns : tie.Need-returns
+unfolding access-text
+returns c = within 512 (omega arith) (then (c .before .before .before .before .before .before .push-words .ensures) (c .before .before .push .ensures))
+
+pub push-access-spec : {M : Type 1} → statement M
+push-access-spec = tie.close (tie.spec push-words-requires push-requires same-length returns)

@@ -1,0 +1,37 @@
+-- `explain_text::push_answer` meets its contract.
+use native.Mathlib.Omega.{arith}
+use Rattle.frames_text.proofs.Appends.{then, within}
+use Rattle.explain_text.specs.Texts.{answer-text}
+use borrow.Author.Needs.{needs}
+use Rattle.explain_text.proofs.push_answer.Statement.{statement}
+use Rattle.explain_text.proofs.push_answer.Tie as tie
+
+push-begin-requires : tie.Need-push-begin-requires
+push-begin-requires c κs = search needs
+
+push-number-requires : tie.Need-push-number-requires
+push-number-requires c κs = search needs
+
+push-detail-requires : tie.Need-push-detail-requires
+push-detail-requires c κs = search needs
+
+push-requires : tie.Need-push-requires
+push-requires c κs = search needs
+
+same-length : tie.Need-same-length
+same-length c = search needs
+
+returns : tie.Need-returns
+unfolding answer-text
+returns c = within 512 (omega arith) (then (c .before .before .before .before .before .before .before .before .before .before .before .before .before .before .push-begin .ensures) (then (c .before .before .before .before .before .before .before .before .before .before .push-number .ensures) (then (c .before .before .before .before .before .before .push-detail .ensures) (c .before .before .push .ensures))))
+
+pub push-answer-spec : {M : Type 1} → statement M
+push-answer-spec =
+    tie.close
+    (tie.spec
+    push-begin-requires
+    push-number-requires
+    push-detail-requires
+    push-requires
+    same-length
+    returns)

@@ -1,0 +1,33 @@
+-- `log_text::push_reply` meets its contract.
+use borrow.Author.Needs.{needs}
+use Rattle.log_text.proofs.push_reply.Statement.{statement}
+use Rattle.log_text.proofs.push_reply.Tie as tie
+
+number-of-requires : tie.Need-number-of-requires
+number-of-requires c κs = search needs
+
+cast-push-answer : tie.Need-cast-push-answer
+cast-push-answer c = search needs
+
+detail-of-requires : tie.Need-detail-of-requires
+detail-of-requires c κs = search needs
+
+push-answer-requires : tie.Need-push-answer-requires
+push-answer-requires c κs = search needs
+
+same-length : tie.Need-same-length
+same-length c = search needs
+
+returns : tie.Need-returns
+returns c = rw (← c .before .before .before .before .number-of .ensures, ← c .before .before .before .detail-of .ensures) (c .before .before .push-answer .ensures)
+
+pub push-reply-spec : {M : Type 1} → statement M
+push-reply-spec =
+    tie.close
+    (tie.spec
+    number-of-requires
+    cast-push-answer
+    detail-of-requires
+    push-answer-requires
+    same-length
+    returns)

@@ -1,0 +1,2 @@
+-- Rows of tables as text.
+pub mod Rows
