@@ -1,0 +1,2 @@
+-- What a whole line of a chunk leads to.
+pub mod Line
