@@ -16,9 +16,7 @@ ghost use mathlib.Core.List.{[], _∷_};
 ghost use Prim.Native.Nat.{_+_, _<_, _≤_};
 ghost use lib.ListN.{length, drop};
 ghost use Rattle.calls.specs.Runs.{MOST-TEXT};
-ghost use Rattle.session.specs.Enter.{arrays, Small, Lent, Workspace};
-ghost use Rattle.reader.specs.Rest.{whole, Sound, Went, Ahead, begun-of};
-ghost use Rattle.frames_step.specs.Line.{WentLine};
+ghost use Rattle.reader.specs.Rest.{whole, Sound, Went, begun-of};
 
 // An LF: it enters the line that it ends.
 pub fn line_feed(
@@ -62,53 +60,8 @@ pub fn line_feed(
     }
 }
 
-// A whole line of the chunk: the n bytes from i on, and the LF behind them.
-fn whole_line(
-    chunk: &[u8],
-    i: usize,
-    n: usize,
-    s: State,
-    kinds: &mut [u8],
-    lengths: &mut [u16],
-    bytes: &mut [u8],
-    readings: &mut [u32],
-    buffer: &mut [u8],
-    log: &mut [u32],
-    out: &mut [u8],
-    at: usize,
-) -> Fed
-    requires { ⌜ (s .part ≡ Part.Text 0) × Small (s .call) × Lent (arrays (now kinds) (now lengths) (now bytes) (now readings)) × Workspace (now buffer) (now log) (now out) at × Ahead (now chunk) i n × (n < 8199) ⌝ }
-    ensures { λ r. ⌜ WentLine (now (chunk .entry)) i s (now (kinds .entry)) (now (lengths .entry)) (now (bytes .entry)) (now (readings .entry)) (now (buffer .entry)) (now (log .entry)) (now (out .entry)) at (now (kinds .exit)) (now (lengths .exit)) (now (bytes .exit)) (now (readings .exit)) (now (buffer .exit)) (now (log .exit)) (now (out .exit)) r ⌝ }
-{
-    let call = s.call;
-    let slave = s.slave;
-    let end = i + n;
-    let used = end + 1;
-    let line = &chunk[i..end];
-    let e = enter_line(
-        line,
-        call,
-        slave,
-        kinds,
-        lengths,
-        bytes,
-        readings,
-        buffer,
-        log,
-        out,
-        at,
-    );
-    let t = end_line(s.line, e, out, at);
-    let state = t.state;
-    Fed {
-        state,
-        used,
-        made: t.made,
-    }
-}
-
-// A whole line of the chunk, the end of a line that began before it, or else some bytes.
-fn line_or_bytes(
+// The end of a line that began before the chunk, or else some bytes.
+fn end_or_bytes(
     chunk: &[u8],
     i: usize,
     s: State,
@@ -125,24 +78,6 @@ fn line_or_bytes(
     requires { ⌜ Sound (whole s (now text) (now kinds) (now lengths) (now bytes) (now readings) (now buffer) (now log)) × (at + MOST-TEXT ≤ length (now out)) × (i < length (now chunk)) ⌝ }
     ensures { λ r. ⌜ Went (whole s (now (text .entry)) (now (kinds .entry)) (now (lengths .entry)) (now (bytes .entry)) (now (readings .entry)) (now (buffer .entry)) (now (log .entry))) (now (out .entry)) at (drop i (now (chunk .entry))) (whole (r .state) (now (text .exit)) (now (kinds .exit)) (now (lengths .exit)) (now (bytes .exit)) (now (readings .exit)) (now (buffer .exit)) (now (log .exit))) (now (out .exit)) (r .made) (drop (r .used) (now (chunk .entry))) × (r .made ≤ at + MOST-TEXT) × (i < r .used) × (r .used ≤ length (now (chunk .entry))) ⌝ }
 {
-    let p = s.part;
-    let n = fresh_line(p, chunk, i);
-    if n < 8199 {
-        return whole_line(
-            chunk,
-            i,
-            n,
-            s,
-            kinds,
-            lengths,
-            bytes,
-            readings,
-            buffer,
-            log,
-            out,
-            at,
-        );
-    }
     if chunk[i] == 10 {
         let used = i + 1;
         let t = line_feed(
@@ -165,6 +100,69 @@ fn line_or_bytes(
         };
     }
     some(chunk, i, s, text, out, at)
+}
+
+// A whole line of the chunk, where one is ahead, or else the end of a line or some bytes.
+fn line_or_bytes(
+    chunk: &[u8],
+    i: usize,
+    s: State,
+    text: &mut [u8],
+    kinds: &mut [u8],
+    lengths: &mut [u16],
+    bytes: &mut [u8],
+    readings: &mut [u32],
+    buffer: &mut [u8],
+    log: &mut [u32],
+    out: &mut [u8],
+    at: usize,
+) -> Fed
+    requires { ⌜ Sound (whole s (now text) (now kinds) (now lengths) (now bytes) (now readings) (now buffer) (now log)) × (at + MOST-TEXT ≤ length (now out)) × (i < length (now chunk)) ⌝ }
+    ensures { λ r. ⌜ Went (whole s (now (text .entry)) (now (kinds .entry)) (now (lengths .entry)) (now (bytes .entry)) (now (readings .entry)) (now (buffer .entry)) (now (log .entry))) (now (out .entry)) at (drop i (now (chunk .entry))) (whole (r .state) (now (text .exit)) (now (kinds .exit)) (now (lengths .exit)) (now (bytes .exit)) (now (readings .exit)) (now (buffer .exit)) (now (log .exit))) (now (out .exit)) (r .made) (drop (r .used) (now (chunk .entry))) × (r .made ≤ at + MOST-TEXT) × (i < r .used) × (r .used ≤ length (now (chunk .entry))) ⌝ }
+{
+    let p = s.part;
+    let n = fresh_line(p, chunk, i);
+    if n < 8199 {
+        let call = s.call;
+        let slave = s.slave;
+        let end = i + n;
+        let used = end + 1;
+        let line = &chunk[i..end];
+        let e = enter_line(
+            line,
+            call,
+            slave,
+            kinds,
+            lengths,
+            bytes,
+            readings,
+            buffer,
+            log,
+            out,
+            at,
+        );
+        let t = end_line(s.line, e, out, at);
+        let state = t.state;
+        return Fed {
+            state,
+            used,
+            made: t.made,
+        };
+    }
+    end_or_bytes(
+        chunk,
+        i,
+        s,
+        text,
+        kinds,
+        lengths,
+        bytes,
+        readings,
+        buffer,
+        log,
+        out,
+        at,
+    )
 }
 
 // A run of readings, where one is ahead, or else a line or some bytes.

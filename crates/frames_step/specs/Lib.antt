@@ -1,2 +1,0 @@
--- What a whole line of a chunk leads to.
-pub mod Line
