@@ -1,4 +1,4 @@
-// A step of the reader through a chunk: a run of readings, a line, or some bytes of a line.
+// A step of the reader through a chunk: a line, or some bytes of one.
 use bytes_step::Fed;
 use bytes_step::ahead::fresh_line;
 use bytes_step::some;
@@ -7,8 +7,6 @@ use reader::State;
 use reader::Turn;
 use reader::turns::end_line;
 use reader::turns::end_long;
-use readings_run::after_run;
-use readings_run::run_readings;
 use session_lines::enter_line;
 ghost use mathlib.Core.Path.{_≡_};
 ghost use mathlib.Core.Bool.{false};
@@ -103,7 +101,7 @@ fn end_or_bytes(
 }
 
 // A whole line of the chunk, where one is ahead, or else the end of a line or some bytes.
-fn line_or_bytes(
+pub fn line_or_bytes(
     chunk: &[u8],
     i: usize,
     s: State,
@@ -150,49 +148,6 @@ fn line_or_bytes(
         };
     }
     end_or_bytes(
-        chunk,
-        i,
-        s,
-        text,
-        kinds,
-        lengths,
-        bytes,
-        readings,
-        buffer,
-        log,
-        out,
-        at,
-    )
-}
-
-// A run of readings, where one is ahead, or else a line or some bytes.
-pub fn step(
-    chunk: &[u8],
-    i: usize,
-    s: State,
-    text: &mut [u8],
-    kinds: &mut [u8],
-    lengths: &mut [u16],
-    bytes: &mut [u8],
-    readings: &mut [u32],
-    buffer: &mut [u8],
-    log: &mut [u32],
-    out: &mut [u8],
-    at: usize,
-) -> Fed
-    requires { ⌜ Sound (whole s (now text) (now kinds) (now lengths) (now bytes) (now readings) (now buffer) (now log)) × (at + MOST-TEXT ≤ length (now out)) × (i < length (now chunk)) ⌝ }
-    ensures { λ r. ⌜ Went (whole s (now (text .entry)) (now (kinds .entry)) (now (lengths .entry)) (now (bytes .entry)) (now (readings .entry)) (now (buffer .entry)) (now (log .entry))) (now (out .entry)) at (drop i (now (chunk .entry))) (whole (r .state) (now (text .exit)) (now (kinds .exit)) (now (lengths .exit)) (now (bytes .exit)) (now (readings .exit)) (now (buffer .exit)) (now (log .exit))) (now (out .exit)) (r .made) (drop (r .used) (now (chunk .entry))) × (r .made ≤ at + MOST-TEXT) × (i < r .used) × (r .used ≤ length (now (chunk .entry))) ⌝ }
-{
-    let r = run_readings(chunk, i, s, readings);
-    if i < r.used {
-        let state = after_run(s, r);
-        return Fed {
-            state,
-            used: r.used,
-            made: at,
-        };
-    }
-    line_or_bytes(
         chunk,
         i,
         s,

@@ -19,58 +19,58 @@ large-buffer-requires : tie.Need-large-buffer-requires
 large-buffer-requires c κs = search needs
 
 slice-aggregate-read-all : tie.Need-slice-aggregate-read-all
-slice-aggregate-read-all c = search needs
+slice-aggregate-read-all c = c .before .large-buffer .ensures
 
 slice-aggregate-read-all-2 : tie.Need-slice-aggregate-read-all-2
-slice-aggregate-read-all-2 c = search needs
+slice-aggregate-read-all-2 c = sym (size 8198)
 
 slice-aggregate-read-all-3 : tie.Need-slice-aggregate-read-all-3
-slice-aggregate-read-all-3 c = search needs
+slice-aggregate-read-all-3 c = sym (size 64)
 
 slice-aggregate-read-all-4 : tie.Need-slice-aggregate-read-all-4
-slice-aggregate-read-all-4 c = search needs
+slice-aggregate-read-all-4 c = sym (size 64)
 
 slice-aggregate-read-all-5 : tie.Need-slice-aggregate-read-all-5
-slice-aggregate-read-all-5 c = search needs
+slice-aggregate-read-all-5 c = sym (size 4096)
 
 slice-aggregate-read-all-6 : tie.Need-slice-aggregate-read-all-6
-slice-aggregate-read-all-6 c = search needs
+slice-aggregate-read-all-6 c = sym (size 8192)
 
 slice-aggregate-read-all-7 : tie.Need-slice-aggregate-read-all-7
-slice-aggregate-read-all-7 c = search needs
+slice-aggregate-read-all-7 c = sym (size 4096)
 
 slice-aggregate-read-all-8 : tie.Need-slice-aggregate-read-all-8
-slice-aggregate-read-all-8 c = search needs
+slice-aggregate-read-all-8 c = sym (size 16384)
 
 slice-aggregate-read-all-9 : tie.Need-slice-aggregate-read-all-9
-slice-aggregate-read-all-9 c = search needs
+slice-aggregate-read-all-9 c = sym (size 262144)
 
 read-all-requires : tie.Need-read-all-requires
 read-all-requires c κs = (size 8198, record { kinds = size 64; lengths = size 64; bytes = size 4096; readings = size 8192 }, size 4096, size 16384, room)
 
 slice-aggregate-finish : tie.Need-slice-aggregate-finish
-slice-aggregate-finish c = search needs
+slice-aggregate-finish c = sym (c .before .before .before .before .before .before .before .before .before .before .read-all .kept .1 .0 ∙ size 8198)
 
 slice-aggregate-finish-2 : tie.Need-slice-aggregate-finish-2
-slice-aggregate-finish-2 c = search needs
+slice-aggregate-finish-2 c = sym (c .before .before .before .before .before .before .before .before .before .before .before .read-all .kept .1 .1 .0 ∙ size 64)
 
 slice-aggregate-finish-3 : tie.Need-slice-aggregate-finish-3
-slice-aggregate-finish-3 c = search needs
+slice-aggregate-finish-3 c = sym (c .before .before .before .before .before .before .before .before .before .before .before .before .read-all .kept .1 .1 .1 .0 ∙ size 64)
 
 slice-aggregate-finish-4 : tie.Need-slice-aggregate-finish-4
-slice-aggregate-finish-4 c = search needs
+slice-aggregate-finish-4 c = sym (c .before .before .before .before .before .before .before .before .before .before .before .before .before .read-all .kept .1 .1 .1 .1 .0 ∙ size 4096)
 
 slice-aggregate-finish-5 : tie.Need-slice-aggregate-finish-5
-slice-aggregate-finish-5 c = search needs
+slice-aggregate-finish-5 c = sym (c .before .before .before .before .before .before .before .before .before .before .before .before .before .before .read-all .kept .1 .1 .1 .1 .1 .0 ∙ size 8192)
 
 slice-aggregate-finish-6 : tie.Need-slice-aggregate-finish-6
-slice-aggregate-finish-6 c = search needs
+slice-aggregate-finish-6 c = sym (c .before .before .before .before .before .before .before .before .before .before .before .before .before .before .before .read-all .kept .1 .1 .1 .1 .1 .1 .0 ∙ size 4096)
 
 slice-aggregate-finish-7 : tie.Need-slice-aggregate-finish-7
-slice-aggregate-finish-7 c = search needs
+slice-aggregate-finish-7 c = sym (c .before .before .before .before .before .before .before .before .before .before .before .before .before .before .before .before .read-all .kept .1 .1 .1 .1 .1 .1 .1 .0 ∙ size 16384)
 
 slice-aggregate-finish-8 : tie.Need-slice-aggregate-finish-8
-slice-aggregate-finish-8 c = search needs
+slice-aggregate-finish-8 c = sym (c .before .before .before .before .before .before .before .before .before .before .before .before .before .before .before .before .before .read-all .kept .1 .1 .1 .1 .1 .1 .1 .1 .0 ∙ size 262144)
 
 finish-requires : tie.Need-finish-requires
 finish-requires c κs = (c .before .before .before .before .before .before .before .before .before .before .before .before .before .before .before .before .before .read-all .ensures, subst⁻¹ (λ (n : ℕ). 114717 ≤ n) (c .before .before .before .before .before .before .before .before .before .before .before .before .before .before .before .before .before .read-all .kept .1 .1 .1 .1 .1 .1 .1 .1 .0) room)

@@ -1,10 +1,10 @@
--- `frames_step::step` meets its contract.
+-- `frames::step` meets its contract.
 use native.Mathlib.Omega.{arith}
 use mathlib.Core.Path.{_∙_}
-use Rattle.frames_step.proofs.Bytes.{stored-none, still-sound}
+use Rattle.frames.proofs.Bytes.{stored-none, still-sound}
 use borrow.Author.Needs.{needs}
-use Rattle.frames_step.proofs.step.Statement.{statement}
-use Rattle.frames_step.proofs.step.Tie as tie
+use Rattle.frames.proofs.step.Statement.{statement}
+use Rattle.frames.proofs.step.Tie as tie
 
 run-readings-requires : tie.Need-run-readings-requires
 run-readings-requires c κs = (omega (arith, c .before .before .before .before .before .before .before .before .before .before .pre .2), c .before .before .before .before .before .before .before .before .before .before .pre .0 .lent .readings)
