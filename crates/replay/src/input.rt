@@ -16,7 +16,7 @@ struct Span {
     end: usize,
 }
 
-// The same, or, where there are none, those of the next read; none up to 0 at the end of the input.
+// The same, or, where there are none, those of the next read. At the end of the input `end` is 0.
 fn unfed(chunk: &mut [u8], at: usize, end: usize) -> Span
     requires { ⌜ (at ≤ end) × (end ≤ length (now chunk)) ⌝ }
     ensures { λ r. ⌜ (r .at ≤ r .end) × (r .end ≤ length (now (chunk .exit))) ⌝ }

@@ -1,7 +1,7 @@
 -- `frames::step` meets its contract.
 use native.Mathlib.Omega.{arith}
 use mathlib.Core.Path.{_∙_}
-use Rattle.frames.proofs.Bytes.{stored-none, still-sound}
+use Rattle.frames.proofs.NoRun.{stored-none, still-sound}
 use borrow.Author.Needs.{needs}
 use Rattle.frames.proofs.step.Statement.{statement}
 use Rattle.frames.proofs.step.Tie as tie
