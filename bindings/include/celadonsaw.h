@@ -1,5 +1,5 @@
-/* The driver's calls, as the static libraries have them that `rt staticlib exports` (whole calls) and `rt staticlib
- * exports_steps` (a transfer by steps) write to target/staticlib.
+/* The driver's calls, as the static libraries have them that `rt staticlib export_calls` (whole calls) and `rt staticlib
+ * export_steps` (a transfer by steps) write to target/staticlib.
  *
  * A call is given the words that its register reads return (`readings`) and leaves a log of its accesses (`log`): two words an
  * entry, the kind times 256 plus the register's offset or the mark, then the value. Kinds: 1 a read, 2 a write, 3 a mark (0 a
@@ -7,7 +7,7 @@
  *
  * Every slice is a pointer and a length in elements. A pointer is never null and is aligned, also where the length is 0; a
  * slice that a call writes overlaps no other slice of the call. Nothing else is asked of a caller: for every other input the
- * call ends and leaves what docs/STATEMENTS.md says.
+ * call ends and leaves what docs/MANUAL.md says. The clock and the slave have whole calls only; a master's transfer goes by steps too.
  *
  * Limits: a buffer, or one direction of a transaction in total, has at most 4,096 bytes, and a transaction at most 64 operations.
  */
@@ -45,7 +45,7 @@ typedef struct {
 celadonsaw_report celadonsaw_set_config(uint32_t frequency, uint32_t clk,
     const uint32_t *readings, size_t readings_len, uint32_t *log, size_t log_len);
 
-/* ---- the master's transfers: refusals 6 to 12 and 18 to 20 ---- */
+/* ---- the master's transfers: refusals among 6 to 12 and 18 to 20; docs/MANUAL.md has those of each call ---- */
 
 /* Reads into the buffer. Blocking, and by polls. An empty buffer is 7, after the address is set up. */
 celadonsaw_report celadonsaw_blocking_read(uint16_t address, uint8_t *read, size_t read_len,
@@ -76,7 +76,7 @@ celadonsaw_report celadonsaw_transaction_async(uint16_t address, const uint8_t *
     const uint16_t *lengths, size_t lengths_len, const uint8_t *write, size_t write_len, uint8_t *read, size_t read_len,
     const uint32_t *readings, size_t readings_len, uint32_t *log, size_t log_len);
 
-/* ---- the slave's calls: refusals 9 to 11 and 13 to 20 ---- */
+/* ---- the slave's calls: refusals among 9 to 11 and 13 to 20; docs/MANUAL.md has those of each call ---- */
 
 /* What lasts from call to call: hand each call what the one before it left. A new slave is all zeros. */
 typedef struct {

@@ -1,10 +1,10 @@
-//! Links the static libraries of the crates `exports` and `exports_steps`: those in the folder that `CELADONSAW_LIB` names, or
+//! Links the static libraries of the crates `export_calls` and `export_steps`: those in the folder that `CELADONSAW_LIB` names, or
 //! those that `rt staticlib` writes.
 use std::path::{Path, PathBuf};
 use std::process::Command;
 use std::{env, process};
 
-const LIBRARIES: [&str; 2] = ["exports", "exports_steps"];
+const LIBRARIES: [&str; 2] = ["export_calls", "export_steps"];
 
 fn fail(message: &str) -> ! {
     println!("cargo::error={message}");

@@ -1,4 +1,4 @@
-//! The proved I2C driver for the RP2040, for Rust: the static libraries of the crates `exports` and `exports_steps`
+//! The proved I2C driver for the RP2040, for Rust: the static libraries of the crates `export_calls` and `export_steps`
 //! behind safe functions.
 //!
 //! A call is given the words that its register reads return and leaves a log of its accesses, two words an entry ([`Entry`]).

@@ -1,14 +1,14 @@
--- Which answer frame a line is (document 01, "Frames").
+-- Which answer frame a line is (docs/MANUAL.md, "Frames").
 use Prim.Native.Nat.{ℕ}
 use mathlib.Core.Bool.{Bool, true, false}
 use mathlib.Core.List.{List}
 use lib.Dec.{eqb, ltb}
 use lib.ListN.{length}
 use Rattle.regs.specs.Program.{if_then_else_}
-use Rattle.frames_text.specs.Text.{number-at}
-use Rattle.frames_text.specs.Pairs.{whole-pairs}
-use Rattle.frames_text.specs.declared.digits.Value.{Value}
-use Rattle.frames_text.specs.declared.digits.Value.the-variants.{Is, No}
+use Rattle.text_hex.specs.Text.{number-at}
+use Rattle.text_hex.specs.Pairs.{whole-pairs}
+use Rattle.text_hex.specs.declared.digits.Value.{Value}
+use Rattle.text_hex.specs.declared.digits.Value.the-variants.{Is, No}
 use Rattle.answer_frames.specs.declared.Frame.{Frame}
 use Rattle.answer_frames.specs.declared.Frame.the-variants.{Read, Write, Pending, BlockReset, Buffer, Answer, Unknown}
 

@@ -1,13 +1,15 @@
 // Lines of the replay's answers as frames.
-use frames_text::digits::Value;
-use frames_text::digits::is_pairs;
-use frames_text::digits::number;
+use text_hex::digits::Value;
+use text_hex::digits::is_pairs;
+use text_hex::digits::number;
 ghost use mathlib.Core.Path.{_≡_};
 ghost use lib.ListN.{length};
-ghost use Rattle.frames_text.specs.Text.{number-at};
-ghost use Rattle.answer_frames.specs.Frames.{mark-frame, word-frame, word-of, frame-of-kind, frame-of, is-answer, is-unknown};
+ghost use Rattle.text_hex.specs.Text.{number-at};
+ghost use Rattle.answer_frames.specs.Frames.{mark-frame, word-frame, word-of, frame-of-kind, frame-of};
+ghost use Rattle.answer_frames.specs.Frames.{is-answer, is-unknown};
 
-// An answer frame: a read and a write with offset and value, the two marks, a buffer, an answer's number and detail; or no frame.
+// An answer frame: a read and a write with offset and value, the
+// two marks, a buffer, an answer's number and detail; or no frame.
 pub enum Frame {
     Read(u32, u32),
     Write(u32, u32),
@@ -49,7 +51,8 @@ fn word(kind: u32, byte: u32, word: u32) -> Frame
 
 fn word_in(line: &[u8], kind: u32) -> Frame
     requires { ⌜ length (now line) ≡ 12 ⌝ }
-    ensures { λ r. ⌜ r ≡ word-of kind (number-at (now (line .entry)) 2 2) (number-at (now (line .entry)) 4 8) ⌝ }
+    ensures { λ r. ⌜ r ≡ word-of kind (number-at (now (line .entry)) 2 2)
+        (number-at (now (line .entry)) 4 8) ⌝ }
 {
     match number(line, 2, 2) {
         Value::No => Frame::Unknown,

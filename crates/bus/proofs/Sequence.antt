@@ -23,7 +23,8 @@ use Rattle.bus.specs.declared.Opening.the-variants.{None, Start, Restart
 use Rattle.bus.specs.declared.Written.{Written}
 use Rattle.bus.specs.declared.Written.the-variants.{Nothing, Value}
 use Rattle.bus.specs.declared.Placed.{Placed}
-use Rattle.bus.specs.Bus.{Sign, direction-of, opening-of, opening, byte-sign, closing, signs-of, signs, written-to, sign-word, sign-words}
+use Rattle.bus.specs.Bus.{Sign, direction-of, opening-of, opening, byte-sign, closing, signs-of, signs}
+use Rattle.bus.specs.Bus.{written-to, sign-word, sign-words}
 use Rattle.bus.specs.Placed.{written-by, made, moved}
 
 -- ---- the log
@@ -47,9 +48,13 @@ written-entry r (Marked x) es = refl
 abbrev pub later : ℕ → List ℕ → ℕ → List ℕ
 later r log k = written-to r (decode (drop (k * 2) log))
 
-pub later-next : (r : ℕ) (log : List ℕ) (k : ℕ) {x : Written} → k < length log / 2 → x ≡ written-by r (entry (getD log (k * 2) 0) (getD log (k * 2 + 1) 0))
+pub later-next : (r : ℕ) (log : List ℕ) (k : ℕ) {x : Written}
+    → k < length log / 2
+    → x ≡ written-by r (entry (getD log (k * 2) 0) (getD log (k * 2 + 1) 0))
     → later r log k ≡ and-later x (later r log (k + 1))
-later-next r log k h e = rw e (ap (written-to r) (decode-next log k h) ∙ written-entry r (entry (getD log (k * 2) 0) (getD log (k * 2 + 1) 0)) (decode (drop ((k + 1) * 2) log)))
+later-next r log k h e = rw e
+    (ap (written-to r) (decode-next log k h)
+    ∙ written-entry r (entry (getD log (k * 2) 0) (getD log (k * 2 + 1) 0)) (decode (drop ((k + 1) * 2) log)))
 
 pub later-end : (r : ℕ) (log : List ℕ) (k : ℕ) → length log / 2 ≤ k → later r log k ≡ []
 unfolding written-to
@@ -59,7 +64,8 @@ later-end r log k h = ap (written-to r) (decode-end log k h)
 abbrev pub first : ℕ → List ℕ → ℕ → ℕ
 first r log k = getD (later r log k) 0 0
 
-module _ (r : ℕ) (log : List ℕ) (k : ℕ) {x : Written} (h : k < length log / 2) (e : x ≡ written-by r (entry (getD log (k * 2) 0) (getD log (k * 2 + 1) 0))) where
+module _ (r : ℕ) (log : List ℕ) (k : ℕ) {x : Written} (h : k < length log / 2)
+    (e : x ≡ written-by r (entry (getD log (k * 2) 0) (getD log (k * 2 + 1) 0))) where
   pub first-here : {v : ℕ} → x ≡ Value v → first r log k ≡ v
   first-here f = rw (later-next r log k h e, f)
 
@@ -71,7 +77,8 @@ first-none r log k h = rw (later-end r log k h)
 
 -- ---- the sequence
 
-sets-words : (xs ys : List Sign) (l : List ℕ) (at : ℕ) → sets l at (sign-words (xs ++ ys)) ≡ sets (sets l at (sign-words xs)) (at + length xs) (sign-words ys)
+sets-words : (xs ys : List Sign) (l : List ℕ) (at : ℕ)
+    → sets l at (sign-words (xs ++ ys)) ≡ sets (sets l at (sign-words xs)) (at + length xs) (sign-words ys)
 sets-words [] ys l at = rw (add-zero at)
 sets-words (x ∷ xs) ys l at =
     let e : at + suc (length xs) ≡ suc at + length xs = omega arith in
@@ -89,10 +96,19 @@ closing-short false = omega arith
 made-short : (bus : Bus) (address : ℕ) (x : Written) → length (made bus address x) ≤ 4
 made-short bus address Nothing = omega arith
 made-short bus address (Value w) =
-    omega (arith, length-append (opening (opening-of bus w) address (direction-of w)) (byte-sign (direction-of w) w ∷ closing (stop w)), opening-short (opening-of bus w) address (direction-of w), closing-short (stop w))
+    omega (
+      arith,
+      length-append (opening (opening-of bus w) address (direction-of w))
+          (byte-sign (direction-of w) w ∷ closing (stop w)),
+      opening-short (opening-of bus w) address (direction-of w),
+      closing-short (stop w),
+    )
 
 -- what stands before a word's byte, the byte, and STOP, put one after the other
-pub word-put : (bus : Bus) (address w at : ℕ) (l : List ℕ) {l₁ l₂ l₃ : List ℕ} {d : Direction} {o : Opening} {first next y : ℕ} {last : Bool} → d ≡ direction-of w → o ≡ opening-of bus w
+pub word-put : (bus : Bus) (address w at : ℕ) (l : List ℕ) {l₁ l₂ l₃ : List ℕ} {d : Direction} {o : Opening}
+    {first next y : ℕ} {last : Bool}
+    → d ≡ direction-of w
+    → o ≡ opening-of bus w
     → (first ≡ at + length (opening o address d)) × (l₁ ≡ sets l at (sign-words (opening o address d)))
     → y ≡ sign-word (byte-sign d w) → l₂ ≡ set l₁ first y → last ≡ stop w
     → (next ≡ first + 1 + length (closing last)) × (l₃ ≡ sets l₂ (first + 1) (sign-words (closing last)))
@@ -105,14 +121,16 @@ word-put bus address w at l ed eo op ey e₂ el cl =
       rw (sets-words X Y l at) (simp (cl .1, e₂, ey, op .0, op .1, el, eo, ed, n)),
     )
 
-signs-next : (bus : Bus) (address : ℕ) (x : Written) (vs : List ℕ) → signs bus address (and-later x vs) ≡ made bus address x ++ signs (moved bus x) address vs
+signs-next : (bus : Bus) (address : ℕ) (x : Written) (vs : List ℕ)
+    → signs bus address (and-later x vs) ≡ made bus address x ++ signs (moved bus x) address vs
 unfolding signs
 signs-next bus address Nothing vs = refl
 signs-next bus address (Value w) vs = refl
 
 -- what holds at the head of the loop over the entries of a log
 pub record Putting (log out₀ : List ℕ) (address : ℕ) (out : List ℕ) (p : Placed) (k : ℕ) : Type 0 where
-  pub same : sets out (p .at) (sign-words (signs (p .bus) address (later DATA-CMD log k))) ≡ sets out₀ 0 (sign-words (signs Idle address (later DATA-CMD log 0)))
+  pub same : sets out (p .at) (sign-words (signs (p .bus) address (later DATA-CMD log k)))
+      ≡ sets out₀ 0 (sign-words (signs Idle address (later DATA-CMD log 0)))
   pub count : p .at + length (signs (p .bus) address (later DATA-CMD log k)) ≡ length (signs Idle address (later DATA-CMD log 0))
   pub few : p .at ≤ k * 4
   pub within : k ≤ length log / 2
@@ -121,8 +139,12 @@ pub begun : (log out : List ℕ) (address : ℕ) {bus : Bus} → bus ≡ Idle �
 begun log out address e = record { same = rw e; count = rw e (omega arith); few = omega arith; within = omega arith }
 
 module _ {log out₀ : List ℕ} {address : ℕ} {out : List ℕ} {p : Placed} {k : ℕ} (i : Putting log out₀ address out p k) where
-  pub put-on : {out′ : List ℕ} {q : Placed} {x : Written} → k < length log / 2 → x ≡ written-by DATA-CMD (entry (getD log (k * 2) 0) (getD log (k * 2 + 1) 0))
-      → (q .bus ≡ moved (p .bus) x) × (q .at ≡ p .at + length (made (p .bus) address x)) × (out′ ≡ sets out (p .at) (sign-words (made (p .bus) address x)))
+  pub put-on : {out′ : List ℕ} {q : Placed} {x : Written}
+      → k < length log / 2
+      → x ≡ written-by DATA-CMD (entry (getD log (k * 2) 0) (getD log (k * 2 + 1) 0))
+      → (q .bus ≡ moved (p .bus) x)
+      × (q .at ≡ p .at + length (made (p .bus) address x))
+      × (out′ ≡ sets out (p .at) (sign-words (made (p .bus) address x)))
       → Putting log out₀ address out′ q (k + 1)
   put-on {x = x} h e s =
       let rest = signs (moved (p .bus) x) address (later DATA-CMD log (k + 1)) in
@@ -137,9 +159,13 @@ module _ {log out₀ : List ℕ} {address : ℕ} {out : List ℕ} {p : Placed} {
       }
 
   pub same-long : length out ≡ length out₀
-  same-long = sym (length-sets out (p .at) (sign-words (signs (p .bus) address (later DATA-CMD log k)))) ∙ ap length (i .same) ∙ length-sets out₀ 0 (sign-words (signs Idle address (later DATA-CMD log 0)))
+  same-long = sym (length-sets out (p .at) (sign-words (signs (p .bus) address (later DATA-CMD log k))))
+      ∙ ap length (i .same)
+      ∙ length-sets out₀ 0 (sign-words (signs Idle address (later DATA-CMD log 0)))
 
-  pub all-put : length log / 2 ≤ k → (p .at ≡ length (signs Idle address (later DATA-CMD log 0))) × (out ≡ sets out₀ 0 (sign-words (signs Idle address (later DATA-CMD log 0))))
+  pub all-put : length log / 2 ≤ k
+      → (p .at ≡ length (signs Idle address (later DATA-CMD log 0)))
+      × (out ≡ sets out₀ 0 (sign-words (signs Idle address (later DATA-CMD log 0))))
   unfolding signs
   all-put h =
       let e : later DATA-CMD log k ≡ [] = later-end DATA-CMD log k h in

@@ -1,4 +1,4 @@
--- What one entry of a log adds to the sequence. Only contracts of inner functions cite this.
+-- What one entry of a log adds to the sequence. `explain` shows it beside each word.
 use Prim.Native.Nat.{ℕ}
 use mathlib.Core.List.{List, []}
 use lib.Dec.{eqb}

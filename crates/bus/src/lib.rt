@@ -1,4 +1,5 @@
-// The bus between two words, and the sequence that a log makes of it (UM10204, and DATA_CMD in the RP2040 datasheet).
+// The bus between two words, and the sequence that a log makes
+// of it (UM10204, and DATA_CMD in the RP2040 datasheet).
 use regs::access::Entry;
 use regs::access::entry_of;
 use regs::fields::address_of;
@@ -15,7 +16,9 @@ ghost use lib.Seq.{sets};
 ghost use Rattle.regs.specs.Fields.{restart, address-field};
 ghost use Rattle.regs.specs.Log.{entry, decode};
 ghost use Rattle.regs.specs.Registers.{TAR};
-ghost use Rattle.bus.specs.Bus.{direction-of, direction-bit, same, opening-of, opening, byte-sign, closing, after, signs-of, written-to, bus-sequence, sign-word, sign-words};
+ghost use Rattle.bus.specs.Bus.{direction-of, direction-bit, same, opening-of, opening, byte-sign};
+ghost use Rattle.bus.specs.Bus.{closing, after, signs-of, written-to, bus-sequence, sign-word};
+ghost use Rattle.bus.specs.Bus.{sign-words};
 ghost use Rattle.bus.specs.Placed.{written-by, made, moved};
 
 // The direction of a byte on the bus.
@@ -49,7 +52,8 @@ pub struct Placed {
     pub at: usize,
 }
 
-// How the entries of a sequence stand in a buffer: a kind in the upper half of a word, and the byte of those that have one.
+// How the entries of a sequence stand in a buffer: a kind in the
+// upper half of a word, and the byte of those that have one.
 pub const START: u32 = 0x10000;
 
 pub const RESTART: u32 = 0x20000;
@@ -133,7 +137,9 @@ fn put(out: &mut [u32], at: usize, word: u32)
 // START or RESTART, and the address byte.
 fn put_address(out: &mut [u32], at: usize, first: u32, address: u32, d: Direction) -> usize
     requires { ⌜ (address < 1024) × (at + 2 < 2 ^ 64) ⌝ }
-    ensures { λ r. ⌜ (r ≡ at + 2) × (now (out .exit) ≡ sets (now (out .entry)) at (first ∷ (0x40000 + (address * 2 + direction-bit d)) ∷ [])) ⌝ }
+    ensures { λ r. ⌜ (r ≡ at + 2)
+        × (now (out .exit) ≡ sets (now (out .entry)) at
+        (first ∷ (0x40000 + (address * 2 + direction-bit d)) ∷ [])) ⌝ }
 {
     put(out, at, first);
     put(out, at + 1, ADDRESS + (address * 2 + d.bit()));
@@ -143,7 +149,8 @@ fn put_address(out: &mut [u32], at: usize, first: u32, address: u32, d: Directio
 impl Opening {
     fn put(self, out: &mut [u32], at: usize, address: u32, d: Direction) -> usize
         requires { ⌜ (address < 1024) × (at + 2 < 2 ^ 64) ⌝ }
-        ensures { λ r. ⌜ (r ≡ at + length (opening self address d)) × (now (out .exit) ≡ sets (now (out .entry)) at (sign-words (opening self address d))) ⌝ }
+        ensures { λ r. ⌜ (r ≡ at + length (opening self address d))
+            × (now (out .exit) ≡ sets (now (out .entry)) at (sign-words (opening self address d))) ⌝ }
     {
         match self {
             Opening::None => at,
@@ -155,7 +162,8 @@ impl Opening {
 
 fn put_closing(out: &mut [u32], at: usize, last: bool) -> usize
     requires { ⌜ at + 1 < 2 ^ 64 ⌝ }
-    ensures { λ r. ⌜ (r ≡ at + length (closing last)) × (now (out .exit) ≡ sets (now (out .entry)) at (sign-words (closing last))) ⌝ }
+    ensures { λ r. ⌜ (r ≡ at + length (closing last))
+        × (now (out .exit) ≡ sets (now (out .entry)) at (sign-words (closing last))) ⌝ }
 {
     if last {
         put(out, at, STOP);
@@ -172,7 +180,8 @@ impl Bus {
         Bus::Idle
     }
 
-    // What a word makes before its byte: START on an idle bus; RESTART where the direction changes or the word asks for it.
+    // What a word makes before its byte: START on an idle bus;
+    // RESTART where the direction changes or the word asks for it.
     pub fn opens(self, w: u32) -> Opening
         ensures { λ r. ⌜ r ≡ opening-of self w ⌝ }
     {
@@ -200,7 +209,9 @@ impl Bus {
     // Puts what a word makes of the bus into the buffer.
     fn put(self, out: &mut [u32], at: usize, address: u32, w: u32) -> Placed
         requires { ⌜ (address < 1024) × (at + 4 < 2 ^ 64) ⌝ }
-        ensures { λ r. ⌜ (r .bus ≡ after w) × (r .at ≡ at + length (signs-of self address w)) × (now (out .exit) ≡ sets (now (out .entry)) at (sign-words (signs-of self address w))) ⌝ }
+        ensures { λ r. ⌜ (r .bus ≡ after w)
+            × (r .at ≡ at + length (signs-of self address w))
+            × (now (out .exit) ≡ sets (now (out .entry)) at (sign-words (signs-of self address w))) ⌝ }
     {
         let d = Direction::of(w);
         let first = self.opens(w).put(out, at, address, d);
@@ -217,7 +228,10 @@ impl Placed {
     // Puts what an entry of a log makes of the bus into the buffer, where the entry writes a word.
     fn put(self, out: &mut [u32], address: u32, word: Written) -> Placed
         requires { ⌜ (address < 1024) × (self .at + 4 < 2 ^ 64) ⌝ }
-        ensures { λ r. ⌜ (r .bus ≡ moved (self .bus) word) × (r .at ≡ self .at + length (made (self .bus) address word)) × (now (out .exit) ≡ sets (now (out .entry)) (self .at) (sign-words (made (self .bus) address word))) ⌝ }
+        ensures { λ r. ⌜ (r .bus ≡ moved (self .bus) word)
+            × (r .at ≡ self .at + length (made (self .bus) address word))
+            × (now (out .exit) ≡ sets (now (out .entry)) (self .at)
+            (sign-words (made (self .bus) address word))) ⌝ }
     {
         match word {
             Written::Nothing => self,
@@ -232,7 +246,8 @@ impl Placed {
 // What entry k of a log writes to a register.
 fn written_at(log: &[u32], k: usize, register: u8) -> Written
     requires { ⌜ k < length (now log) / 2 ⌝ }
-    ensures { λ r. ⌜ r ≡ written-by register (entry (getD (now (log .entry)) (k * 2) 0) (getD (now (log .entry)) (k * 2 + 1) 0)) ⌝ }
+    ensures { λ r. ⌜ r ≡ written-by register
+        (entry (getD (now (log .entry)) (k * 2) 0) (getD (now (log .entry)) (k * 2 + 1) 0)) ⌝ }
 {
     let at = k * 2;
     let e = entry_of(log[at], log[at + 1]);
@@ -264,9 +279,12 @@ pub fn address_in(log: &[u32]) -> u32
     0
 }
 
-// Writes the bus sequence of a log into a buffer, and says how many places it takes: those past the buffer's end are left out.
+// Writes the bus sequence of a log into a buffer, and says how
+// many places it takes: those past the buffer's end are left out.
 pub fn bus_sequence(log: &[u32], out: &mut [u32]) -> usize
-    ensures { λ r. ⌜ (r ≡ length (bus-sequence (decode (now (log .entry))))) × (now (out .exit) ≡ sets (now (out .entry)) 0 (sign-words (bus-sequence (decode (now (log .entry)))))) ⌝ }
+    ensures { λ r. ⌜ (r ≡ length (bus-sequence (decode (now (log .entry)))))
+        × (now (out .exit) ≡ sets (now (out .entry)) 0
+        (sign-words (bus-sequence (decode (now (log .entry)))))) ⌝ }
 {
     let address = address_in(log);
     let entries = log.len() / 2;

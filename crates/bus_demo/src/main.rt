@@ -1,4 +1,5 @@
-// Prints the bus sequence of worked logs. The file `stdout` holds what UM10204 and the datasheet's DATA_CMD make of them, worked out by hand.
+// Prints the bus sequence of worked logs. The file `stdout` holds what
+// UM10204 and the datasheet's DATA_CMD make of them, worked out by hand.
 use libc::STDOUT_FILENO;
 ghost use Prim.Native.Nat.{_≤_};
 

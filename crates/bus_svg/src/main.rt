@@ -1,13 +1,15 @@
-// Draws what a call put on the bus: the replay's answer frames on standard input, an SVG picture on standard output. The picture is that of the first call that put
-// anything on the bus; it is what svg_text's Picture says of that call's writes, by the contracts of `explain_bus::kept::keep` and `svg_picture::picture`. A line that is
-// no answer frame is told with its number on standard error. The lines are what line_input's Handed says, by the contract of `line_input::next_line`. Here they are only
-// moved.
+// Draws what a call put on the bus: the replay's answer frames on standard input, an SVG
+// picture on standard output. The picture is that of the first call that put anything on
+// the bus; it is what svg_text's Picture says of that call's writes, by the contracts of
+// `explain_bus::kept::keep` and `svg_picture::picture`. A line that is no answer frame
+// is told with its number on standard error. The lines are what text_stdin's Handed
+// says, by the contract of `text_stdin::next_line`. Here they are only moved.
 use answer_frames::frame_in;
 use answer_frames::is_answer;
 use answer_frames::is_unknown;
 use libc::STDERR_FILENO;
 use libc::STDOUT_FILENO;
-use line_input::next_line;
+use text_stdin::next_line;
 ghost use Prim.Native.Nat.{_<_};
 
 // What is kept of the open call: how much of the log is used; and whether a picture was drawn.
@@ -28,7 +30,7 @@ fn warn_of(line: u64) {
 
 // The picture of the log's used part. Says whether there was anything to draw.
 fn draw(log: &[u32], used: usize, places: &mut [u32], out: &mut [u8]) -> bool {
-    let n = runs::least(used, log.len());
+    let n = regs_runs::least(used, log.len());
     let made = svg_picture::picture(&log[..n], places, out);
     io::write_all(STDOUT_FILENO, &out[..made]);
     made > 0
@@ -59,7 +61,8 @@ fn end_line(
     }
 }
 
-// A proved loop ends, so it counts its turns down from a number that no run uses up. Behind the picture none is left.
+// A proved loop ends, so it counts its turns down from a
+// number that no run uses up. Behind the picture none is left.
 fn turns_left(turns: u64, done: bool) -> u64
     requires { ⌜ 0 < turns ⌝ }
     ensures { λ r. ⌜ r < turns ⌝ }
@@ -75,7 +78,7 @@ fn draw_first(
     places: &mut [u32],
     out: &mut [u8],
 ) -> bool {
-    let mut source = line_input::start();
+    let mut source = text_stdin::start();
     let mut call = Call {
         used: 0,
         done: false,

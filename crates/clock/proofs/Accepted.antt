@@ -1,4 +1,4 @@
--- Exactly the settings that document 01's table does not refuse are accepted.
+-- Exactly the settings that no row of the table of refusals refuses are accepted.
 use Prim.Native.Nat.{ℕ, suc, _-_, _<_, _≤_}
 use native.Mathlib.Omega.{arith}
 use mathlib.Core.Bool.{true, false}
@@ -24,7 +24,9 @@ use Rattle.clock.proofs.Agrees.{small}
 -- with room for its seven accesses and a reading for SDA_HOLD
 abbrev pub left-by : ℕ → ℕ → ℕ → ℕ → List ℕ → Outcome (Unit {0}) Reply
 left-by f clk more v rs =
-    outcome Answered LogFull OutOfReadings (behaviour (set-config f clk) (suc (suc (suc (suc (suc (suc (suc more)))))))) (suc (suc (suc (suc (suc (suc (suc more))))))) (v ∷ rs) [] tt
+    outcome Answered LogFull OutOfReadings
+    (behaviour (set-config f clk) (suc (suc (suc (suc (suc (suc (suc more))))))))
+    (suc (suc (suc (suc (suc (suc (suc more))))))) (v ∷ rs) [] tt
 
 -- the seven accesses of an accepted setting
 abbrev pub accesses : ℕ → ℕ → ℕ → List Entry
@@ -50,7 +52,11 @@ hold-at f clk q = rw q
 
 module _ (f clk more v : ℕ) (rs : List ℕ) where
   -- every test was passed: nothing is cut off in the registers
-  passed : ltb 1000000 f ≡ false → eqb f 0 ≡ false → ltb 1431655765 clk ≡ false → ltb 0xffff (hcnt f clk) ≡ false → ltb 0xffff (lcnt f clk) ≡ false
+  passed : ltb 1000000 f ≡ false
+      → eqb f 0 ≡ false
+      → ltb 1431655765 clk ≡ false
+      → ltb 0xffff (hcnt f clk) ≡ false
+      → ltb 0xffff (lcnt f clk) ≡ false
       → ltb (hcnt f clk) 8 ≡ false → ltb (lcnt f clk) 8 ≡ false → (f ≡ 1000000 → 32000000 < clk) → ltb (lcnt f clk - 2) (hold f clk) ≡ false
       → NotRefused f clk × (as-u16 (hcnt f clk) ≡ hcnt f clk) × (as-u16 (lcnt f clk) ≡ lcnt f clk) × (as-u16 (hold f clk) ≡ hold f clk)
   passed q₁ q₂ q₃ qh ql q₆ q₇ z qd =
@@ -80,27 +86,45 @@ module _ (f clk more v : ℕ) (rs : List ℕ) where
   settled =
       by-test (ltb 1000000 f) (λ q. rw q (inr ((λ n. omega (arith, ltb-true 1000000 f q, n .not-too-high)), not-accepted 0))) (λ q₁. rw q₁
       (by-test (eqb f 0) (λ q. rw q (inr ((λ n. omega (arith, eqb-true f 0 q, n .not-zero)), not-accepted 1))) (λ q₂. rw q₂
-      (by-test (ltb 1431655765 clk) (λ q. rw q (inr ((λ n. omega (arith, ltb-true 1431655765 clk q, n .clock-in-range)), not-accepted 2))) (λ q₃. rw q₃
-      (by-test (ltb 0xffff (hcnt f clk)) (λ q. rw q (inr ((λ n. omega (arith, ltb-true 65535 (hcnt f clk) q, n .hcnt-not-above)), not-accepted 3))) (λ qh. rw qh
-      (by-test (ltb 0xffff (lcnt f clk)) (λ q. rw q (inr ((λ n. omega (arith, ltb-true 65535 (lcnt f clk) q, n .lcnt-not-above)), not-accepted 3))) (λ ql. rw ql
-      (by-test (ltb (hcnt f clk) 8) (λ q. rw q (inr ((λ n. omega (arith, ltb-true (hcnt f clk) 8 q, n .hcnt-not-below)), not-accepted 4))) (λ q₆. rw q₆
-      (by-test (ltb (lcnt f clk) 8) (λ q. rw q (inr ((λ n. omega (arith, ltb-true (lcnt f clk) 8 q, n .lcnt-not-below)), not-accepted 4))) (λ q₇. rw q₇
+      (by-test (ltb 1431655765 clk) (λ q. rw q
+      (inr ((λ n. omega (arith, ltb-true 1431655765 clk q, n .clock-in-range)), not-accepted 2))) (λ q₃. rw q₃
+      (by-test (ltb 0xffff (hcnt f clk))
+      (λ q. rw q (inr ((λ n. omega (arith, ltb-true 65535 (hcnt f clk) q, n .hcnt-not-above)), not-accepted 3)))
+      (λ qh. rw qh
+      (by-test (ltb 0xffff (lcnt f clk))
+      (λ q. rw q (inr ((λ n. omega (arith, ltb-true 65535 (lcnt f clk) q, n .lcnt-not-above)), not-accepted 3)))
+      (λ ql. rw ql
+      (by-test (ltb (hcnt f clk) 8) (λ q. rw q
+      (inr ((λ n. omega (arith, ltb-true (hcnt f clk) 8 q, n .hcnt-not-below)), not-accepted 4))) (λ q₆. rw q₆
+      (by-test (ltb (lcnt f clk) 8) (λ q. rw q
+      (inr ((λ n. omega (arith, ltb-true (lcnt f clk) 8 q, n .lcnt-not-below)), not-accepted 4))) (λ q₇. rw q₇
       (by-test (ltb f 1000000)
       (λ q. rw (q, hold-below f clk q)
       (by-test (ltb (lcnt f clk - 2) (hold f clk)) (λ qd. rw qd (inr (too-long qd)))
-      (λ qd. let h = passed q₁ q₂ q₃ qh ql q₆ q₇ (λ e. absurd (omega (arith, ltb-true f 1000000 q))) qd in rw (qd, h .1, h .2, h .3) (inl (h .0, refl)))))
+      (λ qd. let h = passed q₁ q₂ q₃ qh ql q₆ q₇ (λ e. absurd (omega (arith, ltb-true f 1000000 q))) qd in rw
+      (qd, h .1, h .2, h .3) (inl (h .0, refl)))))
       (λ q. rw q
       (by-test (ltb clk 32000001)
-      (λ q₉. rw q₉ (inr ((λ n. let e : f ≡ 1000000 = omega (arith, ltb-false f 1000000 q, ltb-false 1000000 f q₁) in omega (arith, ltb-true clk 32000001 q₉, n .fast-enough e)), not-accepted 4)))
+      (λ q₉. rw q₉ (inr (
+        (λ n. let e : f ≡ 1000000 = omega (arith, ltb-false f 1000000 q, ltb-false 1000000 f q₁) in omega
+            (arith, ltb-true clk 32000001 q₉, n .fast-enough e)),
+        not-accepted 4,
+      )))
       (λ q₉. rw (q₉, hold-at f clk q)
       (by-test (ltb (lcnt f clk - 2) (hold f clk)) (λ qd. rw qd (inr (too-long qd)))
-      (λ qd. let h = passed q₁ q₂ q₃ qh ql q₆ q₇ (λ e. omega (arith, ltb-false clk 32000001 q₉)) qd in rw (qd, h .1, h .2, h .3) (inl (h .0, refl)))))))))))))))))))))
+      (λ qd. let h = passed q₁ q₂ q₃ qh ql q₆ q₇ (λ e. omega (arith, ltb-false clk 32000001 q₉)) qd in rw
+      (qd, h .1, h .2, h .3) (inl (h .0, refl)))))))))))))))))))))
 
 -- what is left of an accepted setting, whatever is read and however much room there is beyond its seven accesses
-pub accepted : (f clk more v : ℕ) (rs : List ℕ) → NotRefused f clk → left-by f clk more v rs ≡ record { answer = Answered Accepted; log = accesses f clk v; buffer = []; state = tt }
+pub accepted : (f clk more v : ℕ) (rs : List ℕ)
+    → NotRefused f clk
+    → left-by f clk more v rs
+    ≡ record { answer = Answered Accepted; log = accesses f clk v; buffer = []; state = tt }
 accepted f clk more v rs n = ⊎-elim (λ s. s .1) (λ s. absurd (s .0 n)) (settled f clk more v rs)
 
 -- THE CLAIM: a setting is accepted exactly if no row of the table refuses it
 pub accepted-exactly : (f clk more v : ℕ) (rs : List ℕ) → (number (left-by f clk more v rs .answer) ≡ 0) ↔ NotRefused f clk
-accepted-exactly f clk more v rs =
-    ((λ e. ⊎-elim (λ s. s .0) (λ s. absurd (s .1 e)) (settled f clk more v rs)), (λ n. ap (λ (o : Outcome (Unit {0}) Reply). number (o .answer)) (accepted f clk more v rs n)))
+accepted-exactly f clk more v rs = (
+  (λ e. ⊎-elim (λ s. s .0) (λ s. absurd (s .1 e)) (settled f clk more v rs)),
+  (λ n. ap (λ (o : Outcome (Unit {0}) Reply). number (o .answer)) (accepted f clk more v rs n)),
+)

@@ -1,4 +1,4 @@
--- What document 01's table refuses of clock settings, and what the RP2040 datasheet asks of the counts.
+-- What the table of refusals (docs/MANUAL.md) refuses of clock settings, and what the RP2040 datasheet asks of the counts.
 use Prim.Native.Nat.{ℕ, _+_, _-_, _/_, _%_, _<_, _≤_}
 use mathlib.Core.Path.{_≡_}
 use lib.Dec.{ltb}
@@ -27,7 +27,8 @@ pub record NotRefused (frequency clk : ℕ) : Type 0 where
   pub fast-enough : frequency ≡ 1000000 → 32000000 < clk
   pub hold-fits : hold frequency clk ≤ lcnt frequency clk - 2
 
--- IC_FS_SCL_HCNT, IC_FS_SCL_LCNT, IC_FS_SPKLEN and IC_SDA_HOLD as the datasheet wants them. The spike count is cut to 8 bits as in the Rust,
+-- IC_FS_SCL_HCNT, IC_FS_SCL_LCNT, IC_FS_SPKLEN and IC_SDA_HOLD as the datasheet wants them. The spike count is cut
+-- to 8 bits as in the Rust,
 -- so that it can be 0, where the datasheet wants at least 1, but only if lcnt ÷ 16 is a multiple of 256 (docs/DIFFERENCES.md).
 pub record Lawful (hcnt lcnt hold spike : ℕ) : Type 0 where
   pub hcnt-low : 8 ≤ hcnt

@@ -1,4 +1,4 @@
--- `set_config` of src/i2c.rs, with the clock as an argument, and the refusals that document 01 adds.
+-- `set_config` of src/i2c.rs, with the clock as an argument, and the refusals that are added (docs/MANUAL.md, "The numbers").
 use Prim.Native.Nat.{ℕ, _+_, _*_, _-_, _/_, _%_, _^_}
 use mathlib.Core.Bool.{_||_}
 use lib.Dec.{eqb, ltb}
@@ -17,7 +17,7 @@ Driver B = Program (Unit {0}) Answer B
 unfoldable pub period : ℕ → ℕ → ℕ
 period frequency clk-base = (clk-base + frequency / 2) / frequency
 
--- let lcnt = period * 3 / 5;
+-- let lcnt = period * 3 / 5; the bus is low for three fifths of the period and high for two
 unfoldable pub lcnt-of : ℕ → ℕ
 lcnt-of p = p * 3 / 5
 

@@ -1,4 +1,5 @@
-// Clock setup: `set_config` of the Rust with the clock as an argument, as a machine of one register access a step and as a whole call.
+// Clock setup: `set_config` of the Rust with the clock as an argument,
+// as a machine of one register access a step and as a whole call.
 use regs::access::Next;
 use regs::access::Performed;
 use regs::access::Ran;
@@ -8,11 +9,13 @@ ghost use mathlib.Core.Path.{_≡_};
 ghost use mathlib.Core.List.{[]};
 ghost use Prim.Native.Nat.{_/_, _≤_, _<_};
 ghost use lib.ListN.{length};
-ghost use Rattle.regs.specs.Machine.{final, ran};
+ghost use Rattle.regs.specs.inner.Machine.{final, ran};
 ghost use Rattle.regs.specs.Log.{Leaves, expected};
 ghost use Rattle.clock.specs.SetConfig.{set-config, period, lcnt-of, hcnt-of, spklen};
 ghost use Rattle.clock.specs.Datasheet.{hold};
-ghost use Rattle.clock.specs.Machine.{fits, reaches, holds, setting, start-of, next-of, after-disable, advance-of, machine};
+ghost use Rattle.clock.specs.inner.Machine.{fits, reaches, holds, setting, start-of, next-of};
+ghost use Rattle.clock.specs.inner.Machine.{after-disable};
+ghost use Rattle.clock.specs.inner.Machine.{advance-of, machine};
 
 // What the registers are set to.
 pub struct Counts {
@@ -202,7 +205,9 @@ pub fn advance(p: ClockPoint, v: u32) -> ClockPoint
 
 // The steps from a point to the end.
 fn drive(from: ClockPoint, readings: &[u32], log: &mut [u32]) -> Ran
-    ensures { λ r. ⌜ final (r .reply) (r .entries) (r .used) (now (log .exit)) [] tt ≡ ran machine (now (readings .entry)) (length (now (log .entry)) / 2) from 0 0 (now (log .entry)) [] ⌝ }
+    ensures { λ r. ⌜ final (r .reply) (r .entries) (r .used) (now (log .exit)) [] tt
+        ≡ ran machine (now (readings .entry)) (length (now (log .entry)) / 2) from 0 0 (now (log .entry))
+        [] ⌝ }
 {
     let mut p = from;
     let mut entries: usize = 0;
@@ -228,7 +233,9 @@ fn drive(from: ClockPoint, readings: &[u32], log: &mut [u32]) -> Ran
 
 // Sets the bus frequency for a clock, both in Hz.
 pub fn set_config(frequency: u32, clk: u32, readings: &[u32], log: &mut [u32]) -> Ran
-    ensures { λ r. ⌜ Leaves (expected (set-config frequency clk) (now (log .entry)) (now (readings .entry)) [] tt) (now (log .entry)) (now (log .exit)) r ⌝ }
+    ensures { λ r. ⌜ Leaves
+        (expected (set-config frequency clk) (now (log .entry)) (now (readings .entry)) [] tt)
+        (now (log .entry)) (now (log .exit)) r ⌝ }
 {
     let p = start(frequency, clk);
     drive(p, readings, log)

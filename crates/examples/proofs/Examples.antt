@@ -1,4 +1,4 @@
--- Every row of document 01's examples holds: each is computed.
+-- Every row of the worked examples holds: each is computed.
 use mathlib.Core.Path.{refl}
 use Rattle.regs.specs.Fields.{set-field}
 use Rattle.regs.specs.Program.{outcome, turns, rounds}
@@ -12,8 +12,11 @@ use Rattle.master.specs.Transfer.{blocking-read, blocking-write, read-async, wr
 use Rattle.examples.specs.Rows.{Holds, rows}
 
 pub examples : Each Holds rows
-unfolding set-field outcome turns rounds written-to set-config period lcnt-of hcnt-of hold-below-1-mhz hold-at-1-mhz spklen setup tx-fifo-capacity tx-fifo-full rx-fifo-len read-and-clear-abort-reason
-    read-blocking-bytes read-blocking-internal write-blocking-bytes write-blocking-internal wait-stop-det queue-batch fetch-bytes read-async-internal fill write-async-internal blocking-read blocking-write read-async write-async
+unfolding set-field outcome turns rounds written-to set-config period lcnt-of hcnt-of hold-below-1-mhz hold-at-1-mhz
+    spklen setup tx-fifo-capacity tx-fifo-full rx-fifo-len read-and-clear-abort-reason
+    read-blocking-bytes read-blocking-internal write-blocking-bytes write-blocking-internal wait-stop-det
+    queue-batch fetch-bytes read-async-internal fill write-async-internal blocking-read blocking-write
+    read-async write-async
 examples = (
   (refl, refl),
   (

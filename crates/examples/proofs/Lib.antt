@@ -1,2 +1,2 @@
--- Document 01's examples hold.
+-- The worked examples of docs/MANUAL.md hold.
 pub mod Examples

@@ -1,2 +1,2 @@
--- Document 01's examples as rows.
+-- The worked examples of docs/MANUAL.md as rows.
 pub mod Rows

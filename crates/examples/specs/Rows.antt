@@ -1,4 +1,4 @@
--- The examples (a) to (j) of document 01, as rows of one table, and what it means that a row holds.
+-- The worked examples (a) to (j) of docs/MANUAL.md, as rows of one table, and what it means that a row holds.
 use Prim.Native.Nat.{ℕ}
 use mathlib.Core.Bool.{Bool, true, false}
 use mathlib.Core.List.{List, [], _∷_}
@@ -42,9 +42,11 @@ transferred mode a x readings = expected (transfer mode a x) some-room readings 
 abbrev pub Holds : Row → Type 0
 Holds (counts frequency clk hcnt lcnt hold spike) =
     (number (set frequency clk .answer) ≡ 0)
-    × (set frequency clk .log ≡ Write ENABLE 0 ∷ Write FS-SCL-HCNT hcnt ∷ Write FS-SCL-LCNT lcnt ∷ Write FS-SPKLEN spike ∷ Read SDA-HOLD 0 ∷ Write SDA-HOLD hold ∷ Write ENABLE 1 ∷ [])
+    × (set frequency clk .log ≡ Write ENABLE 0 ∷ Write FS-SCL-HCNT hcnt ∷ Write FS-SCL-LCNT lcnt ∷ Write FS-SPKLEN
+    spike ∷ Read SDA-HOLD 0 ∷ Write SDA-HOLD hold ∷ Write ENABLE 1 ∷ [])
 Holds (refused frequency clk n) = number (set frequency clk .answer) ≡ n
-Holds (words mode x readings ws) = (number (transferred mode 0x50 x readings .answer) ≡ 0) × (written-to DATA-CMD (transferred mode 0x50 x readings .log) ≡ ws)
+Holds (words mode x readings ws) = (number (transferred mode 0x50 x readings .answer) ≡ 0)
+    × (written-to DATA-CMD (transferred mode 0x50 x readings .log) ≡ ws)
 Holds (con general-call before after) = con-slave general-call before ≡ after
 Holds (address a n) = number (transferred blocking a (read 1) (0 ∷ 1 ∷ 0 ∷ []) .answer) ≡ n
 

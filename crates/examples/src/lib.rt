@@ -1,1 +1,2 @@
-// Document 01's proved examples, (a) to (j): specs/Rows.antt has the rows, proofs/Examples.antt the theorem.
+// The worked examples of docs/MANUAL.md, (a) to (j), proved:
+// specs/Rows.antt has the rows, proofs/Examples.antt the theorem.

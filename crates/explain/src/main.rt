@@ -1,10 +1,12 @@
-// Explains the replay's answers: answer frames on standard input, a line of text for each on standard output, and a transfer's bus line before its answer. A line's text
-// is what explain_word's Piece says of it, by the contracts of `explain_word::beside::tell` and `explain_word::transfer::after`, and the bus line what explain_bus's Line
-// says of the transfer's writes, by those of `explain_bus::kept::keep` and `explain_bus::line::bus_line`; the lines are what line_input's Handed says, by that of
-// `line_input::next_line`. Here they are only moved.
-use explain_word::transfer::Transfer;
+// Explains the replay's answers: answer frames on standard input, a line of text for each on
+// standard output, and a transfer's bus line before its answer. A line's text is what
+// explain_beside's Piece says of it, by the contracts of `explain_beside::beside::tell` and
+// `explain_beside::transfer::after`, and the bus line what explain_bus's Line says of the transfer's
+// writes, by those of `explain_bus::kept::keep` and `explain_bus::line::bus_line`; the lines are
+// what text_stdin's Handed says, by that of `text_stdin::next_line`. Here they are only moved.
+use explain_beside::transfer::Transfer;
 use libc::STDOUT_FILENO;
-use line_input::next_line;
+use text_stdin::next_line;
 
 // What is kept of the open call: how much of the log is used, and what stands before the next line.
 struct Call {
@@ -18,7 +20,7 @@ fn say(text: &[u8]) {
 
 // The text of a line, or that it is none.
 fn say_line(line: &[u8], number: u64, before: Transfer, out: &mut [u8]) {
-    let made = explain_word::beside::tell(before, line, out);
+    let made = explain_beside::beside::tell(before, line, out);
     if made == 0 {
         say(b"line ");
         io::print_decimal(STDOUT_FILENO, number);
@@ -30,7 +32,7 @@ fn say_line(line: &[u8], number: u64, before: Transfer, out: &mut [u8]) {
 
 // The bus line of the log's used part.
 fn say_bus(log: &[u32], used: usize, places: &mut [u32], out: &mut [u8]) {
-    let n = runs::least(used, log.len());
+    let n = regs_runs::least(used, log.len());
     let made = explain_bus::line::bus_line(&log[..n], places, out);
     say(&out[..made]);
 }
@@ -56,11 +58,12 @@ fn end_line(
     say_line(line, number, before, out);
     Call {
         used: explain_bus::kept::keep(line, log, call.used),
-        transfer: explain_word::transfer::after(before, line),
+        transfer: explain_beside::transfer::after(before, line),
     }
 }
 
-// Line after line to the end of the input. A proved loop ends, so it counts its turns down from a number that no run uses up.
+// Line after line to the end of the input. A proved loop ends,
+// so it counts its turns down from a number that no run uses up.
 fn explain_all(
     chunk: &mut [u8],
     line: &mut [u8],
@@ -68,7 +71,7 @@ fn explain_all(
     places: &mut [u32],
     out: &mut [u8],
 ) {
-    let mut source = line_input::start();
+    let mut source = text_stdin::start();
     let mut call = Call {
         used: 0,
         transfer: Transfer::No,

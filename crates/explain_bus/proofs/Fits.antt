@@ -14,9 +14,11 @@ use Rattle.bus.specs.declared.Bus.{Bus}
 use Rattle.bus.specs.declared.Bus.the-variants.{Idle}
 use Rattle.bus.specs.declared.Opening.{Opening}
 use Rattle.bus.specs.declared.Opening.the-variants.{None, Start, Restart}
-use Rattle.bus.specs.Bus.{Sign, START, RESTART, STOP, address-byte, written, read-slot, direction-bit, direction-of, opening-of, opening, byte-sign, closing, after, signs, written-to, bus-sequence, sign-word, sign-words}
+use Rattle.bus.specs.Bus.{Sign, START, RESTART, STOP, address-byte, written, read-slot, direction-bit}
+use Rattle.bus.specs.Bus.{direction-of, opening-of, opening, byte-sign, closing, after, signs, written-to}
+use Rattle.bus.specs.Bus.{bus-sequence, sign-word, sign-words}
 use Rattle.explain_bus.specs.Line.{run-text, address-text, byte-text, signs-text, sequence-text}
-use Rattle.explain_bus.specs.Words.{kind-text, word-text, words-text, words-line}
+use Rattle.explain_bus.specs.inner.Words.{kind-text, word-text, words-text, words-line}
 
 -- a value that the lower half of a word holds
 abbrev pub Fits : Sign → Type 0
@@ -56,7 +58,9 @@ fit-signs : (bus : Bus) (address : ℕ) (words : List ℕ) → address < 1024 �
 unfolding signs
 fit-signs bus address [] h = none
 fit-signs bus address (w ∷ words) h =
-    fit-append (fit-append (fit-opening (opening-of bus w) address (direction-of w) h) (and (fit-byte (direction-of w) w) (fit-closing (stop w)))) (fit-signs (after w) address words h)
+    fit-append (fit-append (fit-opening (opening-of bus w) address (direction-of w) h)
+    (and (fit-byte (direction-of w) w) (fit-closing (stop w))))
+    (fit-signs (after w) address words h)
 
 pub fit-sequence : (log : List Entry) → Fit (bus-sequence log)
 fit-sequence log = fit-signs Idle (address-field (getD (written-to TAR log) 0 0)) (written-to DATA-CMD log) (omega arith)
@@ -73,11 +77,16 @@ words-are : (n : ℕ) (ss : List Sign) → Fit ss → words-text n (sign-words s
 unfolding words-text word-text signs-text
 words-are n [] none = refl
 words-are n (read-slot ∷ ss) (and h p) = words-are (n + 1) ss p
-words-are n (START ∷ ss) (and h p) = append-assoc (run-text n) _ _ ∙ ap (λ (l : List ℕ). run-text n ++ (kind-text 1 0 ++ l)) (words-are 0 ss p)
-words-are n (RESTART ∷ ss) (and h p) = append-assoc (run-text n) _ _ ∙ ap (λ (l : List ℕ). run-text n ++ (kind-text 2 0 ++ l)) (words-are 0 ss p)
-words-are n (STOP ∷ ss) (and h p) = append-assoc (run-text n) _ _ ∙ ap (λ (l : List ℕ). run-text n ++ (kind-text 3 0 ++ l)) (words-are 0 ss p)
-words-are n (address-byte b ∷ ss) (and h p) = rw (kind-of 4 b h, value-of 4 b h) (append-assoc (run-text n) _ _ ∙ ap (λ (l : List ℕ). run-text n ++ (address-text b ++ l)) (words-are 0 ss p))
-words-are n (written b ∷ ss) (and h p) = rw (kind-of 5 b h, value-of 5 b h) (append-assoc (run-text n) _ _ ∙ ap (λ (l : List ℕ). run-text n ++ (byte-text b ++ l)) (words-are 0 ss p))
+words-are n (START ∷ ss) (and h p) =
+    append-assoc (run-text n) _ _ ∙ ap (λ (l : List ℕ). run-text n ++ (kind-text 1 0 ++ l)) (words-are 0 ss p)
+words-are n (RESTART ∷ ss) (and h p) =
+    append-assoc (run-text n) _ _ ∙ ap (λ (l : List ℕ). run-text n ++ (kind-text 2 0 ++ l)) (words-are 0 ss p)
+words-are n (STOP ∷ ss) (and h p) =
+    append-assoc (run-text n) _ _ ∙ ap (λ (l : List ℕ). run-text n ++ (kind-text 3 0 ++ l)) (words-are 0 ss p)
+words-are n (address-byte b ∷ ss) (and h p) = rw (kind-of 4 b h, value-of 4 b h)
+    (append-assoc (run-text n) _ _ ∙ ap (λ (l : List ℕ). run-text n ++ (address-text b ++ l)) (words-are 0 ss p))
+words-are n (written b ∷ ss) (and h p) = rw (kind-of 5 b h, value-of 5 b h)
+    (append-assoc (run-text n) _ _ ∙ ap (λ (l : List ℕ). run-text n ++ (byte-text b ++ l)) (words-are 0 ss p))
 
 pub line-is : (log : List Entry) → words-line (sign-words (bus-sequence log)) ≡ sequence-text (bus-sequence log)
 unfolding words-line sequence-text

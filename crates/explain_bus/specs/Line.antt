@@ -7,9 +7,9 @@ use Rattle.regs.specs.Program.{if_then_else_}
 use Rattle.regs.specs.Registers.{TAR}
 use Rattle.regs.specs.Log.{decode}
 use Rattle.bus.specs.Bus.{Sign, START, RESTART, STOP, address-byte, written, read-slot, bus-sequence}
-use Rattle.frames_text.specs.Text.{LF, hex2}
-use Rattle.decimal_text.specs.Decimal.{digits}
-use Rattle.text_rows.specs.Rows.{cell}
+use Rattle.text_hex.specs.Text.{LF, hex2}
+use Rattle.text_tables.specs.Decimal.{digits}
+use Rattle.text_tables.specs.Rows.{cell}
 use Rattle.answer_frames.specs.Frames.{frame-of}
 use Rattle.answer_frames.specs.declared.Frame.{Frame}
 use Rattle.answer_frames.specs.declared.Frame.the-variants.{Read, Write, Pending, BlockReset, Buffer, Answer, Unknown}
@@ -17,7 +17,8 @@ use Rattle.answer_frames.specs.declared.Frame.the-variants.{Read, Write, Pendin
 -- the two words of a log's entry that a frame adds: of a write, and from the write to TAR on. Only a master's calls write TAR.
 abbrev pub kept-of : ℕ → Frame → List ℕ
 kept-of used (Read offset w) = []
-kept-of used (Write offset w) = if eqb used 0 then (if eqb (offset % 256) TAR then (0x200 + offset % 256) ∷ w ∷ [] else []) else (0x200 + offset % 256) ∷ w ∷ []
+kept-of used (Write offset w) = if eqb used 0 then
+    (if eqb (offset % 256) TAR then (0x200 + offset % 256) ∷ w ∷ [] else []) else (0x200 + offset % 256) ∷ w ∷ []
 kept-of used Pending = []
 kept-of used BlockReset = []
 kept-of used Buffer = []

@@ -1,14 +1,15 @@
-// The bus sequence of a transfer as text. Each function puts its text at `at` of a lent buffer and returns where the text ends.
-use decimal_text::push_digits;
-use frames_text::print::push;
-use frames_text::print::push2;
-use text_rows::push_cell;
+// The bus sequence of a transfer as text. Each function puts its
+// text at `at` of a lent buffer and returns where the text ends.
+use text_hex::print::push;
+use text_hex::print::push2;
+use text_tables::decimal::push_digits;
+use text_tables::push_cell;
 ghost use mathlib.Core.Path.{_≡_};
 ghost use Prim.Native.Nat.{_+_, _*_, _<_, _≤_};
 ghost use lib.ListN.{length, take};
-ghost use Rattle.frames_text.specs.Appended.{Appended};
+ghost use Rattle.text_hex.specs.Appended.{Appended};
 ghost use Rattle.explain_bus.specs.Line.{name-text, direction-letter, run-text, bus-line};
-ghost use Rattle.explain_bus.specs.Words.{kind-text, word-text, words-text, words-line};
+ghost use Rattle.explain_bus.specs.inner.Words.{kind-text, word-text, words-text, words-line};
 
 // START, RESTART or STOP.
 pub fn push_name(out: &mut [u8], at: usize, row: usize) -> usize
@@ -71,7 +72,9 @@ fn push_sign(out: &mut [u8], at: usize, run: u32, word: u32) -> usize
 
 fn push_signs(out: &mut [u8], at: usize, places: &[u32], n: usize) -> usize
     requires { ⌜ (at + 9 * n ≤ length (now out)) × (n ≤ length (now places)) × (n ≤ 32768) ⌝ }
-    ensures { λ r. ⌜ Appended (now (out .entry)) at (words-text 0 (take n (now (places .entry)))) (9 * n) (now (out .exit)) r ⌝ }
+    ensures { λ r. ⌜ Appended (now (out .entry)) at
+        (words-text 0 (take n (now (places .entry))))
+        (9 * n) (now (out .exit)) r ⌝ }
 {
     let mut end = at;
     let mut run: u32 = 0;
@@ -91,7 +94,9 @@ fn push_signs(out: &mut [u8], at: usize, places: &[u32], n: usize) -> usize
 
 fn push_sequence(out: &mut [u8], places: &[u32], n: usize) -> usize
     requires { ⌜ (n ≤ 32768) × (294921 ≤ length (now out)) × (n ≤ length (now places)) ⌝ }
-    ensures { λ r. ⌜ Appended (now (out .entry)) 0 (words-line (take n (now (places .entry)))) 294921 (now (out .exit)) r ⌝ }
+    ensures { λ r. ⌜ Appended (now (out .entry)) 0
+        (words-line (take n (now (places .entry))))
+        294921 (now (out .exit)) r ⌝ }
 {
     if n == 0 {
         return 0;
@@ -110,7 +115,9 @@ pub const ROOM: usize = 294921;
 
 // The line of a log, in a buffer lent for it; its sequence is put into another.
 pub fn bus_line(log: &[u32], places: &mut [u32], out: &mut [u8]) -> usize
-    ensures { λ r. ⌜ Appended (now (out .entry)) 0 (bus-line (now (log .entry)) (length (now (places .entry))) (length (now (out .entry)))) (length (now (out .entry))) (now (out .exit)) r ⌝ }
+    ensures { λ r. ⌜ Appended (now (out .entry)) 0
+        (bus-line (now (log .entry)) (length (now (places .entry))) (length (now (out .entry))))
+        (length (now (out .entry))) (now (out .exit)) r ⌝ }
 {
     let n = bus::bus_sequence(log, places);
     if n > MOST {

@@ -18,7 +18,9 @@ module _ (bytes : List ℕ) where
     pub room : t .at + t .len ≤ length bytes
 
   -- the next byte, and what is left after it
-  pub held-head : (t : Transfer) (byte : ℕ) (rest : List ℕ) (i : ℕ) → Held t (byte ∷ rest) i → (getD bytes (t .at + i) 0 ≡ byte) × (Held t rest (i + 1) × (i < t .len))
+  pub held-head : (t : Transfer) (byte : ℕ) (rest : List ℕ) (i : ℕ)
+      → Held t (byte ∷ rest) i
+      → (getD bytes (t .at + i) 0 ≡ byte) × (Held t rest (i + 1) × (i < t .len))
   held-head t byte rest i h =
       let s : i + suc (length rest) ≡ t .len = h .sum in
       let g : t .at + t .len ≤ length bytes = h .room in
@@ -34,4 +36,5 @@ module _ (bytes : List ℕ) where
 
   pub held-last : (t : Transfer) (byte : ℕ) (rest : List ℕ) (i : ℕ) → Held t (byte ∷ rest) i → is-empty rest ≡ eqb (i + 1) (t .len)
   held-last t byte [] i h = let s : i + 1 ≡ t .len = h .sum in sym (eq-eqb (i + 1) (t .len) s)
-  held-last t byte (x ∷ rest) i h = let s : i + suc (suc (length rest)) ≡ t .len = h .sum in sym (ne-eqb (i + 1) (t .len) (λ e. omega arith))
+  held-last t byte (x ∷ rest) i h =
+      let s : i + suc (suc (length rest)) ≡ t .len = h .sum in sym (ne-eqb (i + 1) (t .len) (λ e. omega arith))

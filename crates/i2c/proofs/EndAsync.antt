@@ -5,8 +5,8 @@ use Rattle.regs.specs.Program.{Behaviour}
 use Rattle.regs.specs.declared.answers.Answer.{Answer}
 use Rattle.master.specs.Driver.{Tried, try}
 use Rattle.master.specs.Async.{wait-stop-det}
-use Rattle.transfer.specs.Points.{with-point}
-use Rattle.transfer.specs.Machine.{wait-stop, moved-to, begun}
+use Rattle.transfer.specs.inner.Points.{with-point}
+use Rattle.transfer.specs.inner.Machine.{wait-stop, moved-to, begun}
 use Rattle.transfer.specs.declared.Transfer.{Transfer}
 use Rattle.transfer.specs.declared.Tried as T
 use Rattle.transfer.specs.declared.Point.{Point}
@@ -21,6 +21,13 @@ module _ (kinds lengths bytes : List ℕ) where
   abbrev pub Good : Transfer → (Unit {0} → Behaviour (Unit {0}) Answer) → ℕ → Type 0
   Good t k top = (m : ℕ) → m ≤ top → (p : Point) (b : List ℕ) → Agrees kinds lengths bytes m (begun kinds lengths (with-point t p)) b (k tt)
 
-  pub ending-agrees : (t : Transfer) (k : Unit {0} → Behaviour (Unit {0}) Answer) (top n : ℕ) → Good t k top → (had : T.Tried) (m : ℕ) → m ≤ top → m ≤ n → (p : Point) (b : List ℕ)
-      → Agrees kinds lengths bytes m (moved-to kinds lengths (with-point t p) (wait-stop (t .«send_stop») had)) b (ending t k n (as-tried had))
-  ending-agrees t k top n good = stops-agree kinds lengths bytes t (λ r. try r n k) top n good (λ m h b r. fails kinds lengths bytes t m b r)
+  pub ending-agrees : (t : Transfer) (k : Unit {0} → Behaviour (Unit {0}) Answer) (top n : ℕ)
+      → Good t k top
+      → (had : T.Tried) (m : ℕ)
+      → m ≤ top
+      → m ≤ n
+      → (p : Point) (b : List ℕ)
+      → Agrees kinds lengths bytes m (moved-to kinds lengths (with-point t p) (wait-stop (t .«send_stop») had)) b
+      (ending t k n (as-tried had))
+  ending-agrees t k top n good =
+      stops-agree kinds lengths bytes t (λ r. try r n k) top n good (λ m h b r. fails kinds lengths bytes t m b r)

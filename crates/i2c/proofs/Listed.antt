@@ -16,8 +16,8 @@ use Rattle.regs.proofs.Refine.{ends-agree}
 use Rattle.master.specs.Async.{is-empty}
 use Rattle.master.specs.Operations.{listed, total, known, READ, WRITE}
 use Rattle.master.specs.Transfer.{each-operation}
-use Rattle.transfer.specs.Points.{with-point, mode-of}
-use Rattle.transfer.specs.Machine.{next-at, opened, opened-write, opened-read, begun}
+use Rattle.transfer.specs.inner.Points.{with-point, mode-of}
+use Rattle.transfer.specs.inner.Machine.{next-at, opened, opened-write, opened-read, begun}
 use Rattle.transfer.specs.declared.Transfer.{Transfer}
 use Rattle.transfer.specs.declared.Point.{Point}
 use Rattle.i2c.proofs.Basics.{first, second, sum-is, M, Agrees}
@@ -36,7 +36,11 @@ nothing : (xs : List ℕ) (j : ℕ) → drop j xs ≡ [] → length xs ≤ j
 nothing xs j e = omega (arith, ap (λ (l : List ℕ). length l) e, length-drop j xs)
 
 -- an operation is the last where no kind is left
-pub last-listed : (kinds : List ℕ) (j : ℕ) (ks ls bs : List ℕ) → drop j kinds ≡ ks → j ≤ length kinds → length ks ≡ length ls → eqb j (length kinds) ≡ is-empty (listed ks ls bs)
+pub last-listed : (kinds : List ℕ) (j : ℕ) (ks ls bs : List ℕ)
+    → drop j kinds ≡ ks
+    → j ≤ length kinds
+    → length ks ≡ length ls
+    → eqb j (length kinds) ≡ is-empty (listed ks ls bs)
 unfolding listed
 last-listed kinds j [] ls bs e le s = eq-eqb j (length kinds) (omega (arith, nothing kinds j e))
 last-listed kinds j (kind ∷ ks) [] bs e le s = absurd (omega (arith, s))
@@ -66,7 +70,9 @@ not-read kind q = ne-eqb kind READ (λ z. absurd (omega (arith, eqb-true kind WR
 
 module _ (kinds lengths bytes : List ℕ) where
   -- after a write of `len` bytes, and after a read
-  write-left : (t : Transfer) (kind len : ℕ) (ks ls : List ℕ) (last : Bool) (p : Point) → Left kinds lengths bytes t (kind ∷ ks) (len ∷ ls) → eqb kind WRITE ≡ true
+  write-left : (t : Transfer) (kind len : ℕ) (ks ls : List ℕ) (last : Bool) (p : Point)
+      → Left kinds lengths bytes t (kind ∷ ks) (len ∷ ls)
+      → eqb kind WRITE ≡ true
       → Left kinds lengths bytes (with-point (opened-write t (t .begun + 1) len last) p) ks ls × (t .writes + len ≤ length bytes)
   unfolding opened-write total known
   write-left t kind len ks ls last p left q =
@@ -86,12 +92,16 @@ module _ (kinds lengths bytes : List ℕ) where
         omega arith,
       )
 
-  read-left : (t : Transfer) (kind len : ℕ) (ks ls : List ℕ) (last : Bool) (p : Point) → Left kinds lengths bytes t (kind ∷ ks) (len ∷ ls) → eqb kind WRITE ≡ false
+  read-left : (t : Transfer) (kind len : ℕ) (ks ls : List ℕ) (last : Bool) (p : Point)
+      → Left kinds lengths bytes t (kind ∷ ks) (len ∷ ls)
+      → eqb kind WRITE ≡ false
       → Left kinds lengths bytes (with-point (opened-read t (t .begun + 1) len last) p) ks ls × (t .reads + len ≤ 4096)
   unfolding opened-read total known
   read-left t kind len ks ls last p left q =
       let w : t .writes + total WRITE ks ls ≤ length bytes = rw q at (left .writes-fit) in
-      let r : t .reads + (len + total READ ks ls) ≤ 4096 = rw (is-read kind (first (eqb kind READ || eqb kind WRITE) (known ks) (left .all-known)) q) at (left .reads-fit) in (
+      let r : t .reads + (len + total READ ks ls) ≤ 4096 = rw
+      (is-read kind (first (eqb kind READ || eqb kind WRITE) (known ks) (left .all-known)) q)
+      at (left .reads-fit) in (
         record {
           kinds-left = front kinds (t .begun) kind ks (left .kinds-left) .1 .1;
           lengths-left = front lengths (t .begun) len ls (left .lengths-left) .1 .1;
@@ -106,18 +116,25 @@ module _ (kinds lengths bytes : List ℕ) where
       )
 
   -- the bytes of a write lie at the front of those that are left
-  pub held-front : (t : Transfer) (len : ℕ) (last : Bool) → t .writes + len ≤ length bytes → Held bytes (opened-write t (t .begun + 1) len last) (take len (drop (t .writes) bytes)) 0
+  pub held-front : (t : Transfer) (len : ℕ) (last : Bool)
+      → t .writes + len ≤ length bytes
+      → Held bytes (opened-write t (t .begun + 1) len last) (take len (drop (t .writes) bytes)) 0
   unfolding opened-write
   held-front t len last h =
-      let e : length (take len (drop (t .writes) bytes)) ≡ len = length-take-le len (drop (t .writes) bytes) (rw (length-drop (t .writes) bytes) (omega arith)) in
+      let e : length (take len (drop (t .writes) bytes)) ≡ len =
+      length-take-le len (drop (t .writes) bytes) (rw (length-drop (t .writes) bytes) (omega arith)) in
       let z : t .writes + 0 ≡ t .writes = omega arith in
       record { same = rw (e, z); sum = rw e (omega arith); room = h }
 
   -- from the next operation to the end
   pub operations-agree : (n : ℕ) (ks ls : List ℕ) (t : Transfer) (m : ℕ) → m ≤ n → (b : List ℕ) → Left kinds lengths bytes t ks ls
-      → Agrees kinds lengths bytes m (begun kinds lengths t) b (each-operation (mode-of (t .mode)) (t .reads) (listed ks ls (drop (t .writes) bytes)) n (λ _. ends Accepted))
+      → Agrees kinds lengths bytes m (begun kinds lengths t) b
+      (each-operation (mode-of (t .mode)) (t .reads) (listed ks ls (drop (t .writes) bytes)) n
+      (λ _. ends Accepted))
   unfolding begun listed each-operation opened opened-write opened-read next-at
-  operations-agree n [] ls t m h b left = rw (le-ltb (t .begun) (length kinds) (nothing kinds (t .begun) (left .kinds-left))) (ends-agree (M kinds lengths bytes) m refl)
+  operations-agree n [] ls t m h b left = rw
+      (le-ltb (t .begun) (length kinds) (nothing kinds (t .begun) (left .kinds-left)))
+      (ends-agree (M kinds lengths bytes) m refl)
   operations-agree n (kind ∷ ks) [] t m h b left = absurd (omega (arith, left .as-many))
   operations-agree n (kind ∷ ks) (len ∷ ls) t m h b left =
       let f = front kinds (t .begun) kind ks (left .kinds-left) in
@@ -125,17 +142,47 @@ module _ (kinds lengths bytes : List ℕ) where
       by-test (eqb kind WRITE)
       (λ q.
       let room = write-left t kind len ks ls (is-empty (listed ks ls (drop len (drop (t .writes) bytes)))) (t .point) left q .1 in
-      let same : drop ((t .writes + len) % 2 ^ 64) bytes ≡ drop len (drop (t .writes) bytes) = rw (sum-is (t .writes) len (omega (arith, left .bytes-fit))) (sym (drop-drop len (t .writes) bytes)) in
-      rw (lt-ltb (t .begun) (length kinds) (f .0), f .1 .0, g .1 .0, q, last-listed kinds (t .begun + 1) ks ls (drop len (drop (t .writes) bytes)) (f .1 .1) (omega (arith, f .0)) (omega (arith, left .as-many)))
-      (write-agrees kinds lengths bytes (opened-write t (t .begun + 1) len (is-empty (listed ks ls (drop len (drop (t .writes) bytes))))) _ n n m h h
-      (λ m₁ h₁ p b. subst (λ (xs : List ℕ). Agrees kinds lengths bytes m₁ (begun kinds lengths (with-point (opened-write t (t .begun + 1) len (is-empty (listed ks ls (drop len (drop (t .writes) bytes))))) p)) b (each-operation (mode-of (t .mode)) (t .reads) (listed ks ls xs) n (λ _. ends Accepted))) same
-      (operations-agree n ks ls (with-point (opened-write t (t .begun + 1) len (is-empty (listed ks ls (drop len (drop (t .writes) bytes))))) p) m₁ h₁ b (write-left t kind len ks ls (is-empty (listed ks ls (drop len (drop (t .writes) bytes)))) p left q .0)))
-      b (t .mode) (take len (drop (t .writes) bytes)) (held-front t len (is-empty (listed ks ls (drop len (drop (t .writes) bytes)))) room)))
+      let same : drop ((t .writes + len) % 2 ^ 64) bytes ≡ drop len (drop (t .writes) bytes) =
+      rw (sum-is (t .writes) len (omega (arith, left .bytes-fit))) (sym (drop-drop len (t .writes) bytes)) in
+      rw (
+        lt-ltb (t .begun) (length kinds) (f .0),
+        f .1 .0,
+        g .1 .0,
+        q,
+        last-listed kinds (t .begun + 1) ks ls (drop len (drop (t .writes) bytes)) (f .1 .1) (omega (arith, f .0))
+            (omega (arith, left .as-many)),
+      )
+      (write-agrees kinds lengths bytes
+      (opened-write t (t .begun + 1) len (is-empty (listed ks ls (drop len (drop (t .writes) bytes))))) _ n n m
+      h h
+      (λ m₁ h₁ p b. subst (λ (xs : List ℕ). Agrees kinds lengths bytes m₁
+      (begun kinds lengths (with-point
+      (opened-write t (t .begun + 1) len (is-empty (listed ks ls (drop len (drop (t .writes) bytes))))) p)) b
+      (each-operation (mode-of (t .mode)) (t .reads) (listed ks ls xs) n (λ _. ends Accepted))) same
+      (operations-agree n ks ls (with-point
+      (opened-write t (t .begun + 1) len (is-empty (listed ks ls (drop len (drop (t .writes) bytes))))) p) m₁ h₁
+      b (write-left t kind len ks ls (is-empty (listed ks ls (drop len (drop (t .writes) bytes)))) p left
+      q .0)))
+      b (t .mode) (take len (drop (t .writes) bytes))
+      (held-front t len (is-empty (listed ks ls (drop len (drop (t .writes) bytes)))) room)))
       (λ q.
       let room = read-left t kind len ks ls (is-empty (listed ks ls (drop (t .writes) bytes))) (t .point) left q .1 in
       let same : (t .reads + len) % 2 ^ 64 ≡ t .reads + len = sum-is (t .reads) len room in
-      rw (lt-ltb (t .begun) (length kinds) (f .0), f .1 .0, g .1 .0, q, last-listed kinds (t .begun + 1) ks ls (drop (t .writes) bytes) (f .1 .1) (omega (arith, f .0)) (omega (arith, left .as-many)))
+      rw (
+        lt-ltb (t .begun) (length kinds) (f .0),
+        f .1 .0,
+        g .1 .0,
+        q,
+        last-listed kinds (t .begun + 1) ks ls (drop (t .writes) bytes) (f .1 .1) (omega (arith, f .0))
+            (omega (arith, left .as-many)),
+      )
       (read-agrees kinds lengths bytes (opened-read t (t .begun + 1) len (is-empty (listed ks ls (drop (t .writes) bytes)))) _ n n m h h
-      (λ m₁ h₁ p b. subst (λ (x : ℕ). Agrees kinds lengths bytes m₁ (begun kinds lengths (with-point (opened-read t (t .begun + 1) len (is-empty (listed ks ls (drop (t .writes) bytes)))) p)) b (each-operation (mode-of (t .mode)) x (listed ks ls (drop (t .writes) bytes)) n (λ _. ends Accepted))) same
-      (operations-agree n ks ls (with-point (opened-read t (t .begun + 1) len (is-empty (listed ks ls (drop (t .writes) bytes)))) p) m₁ h₁ b (read-left t kind len ks ls (is-empty (listed ks ls (drop (t .writes) bytes))) p left q .0)))
+      (λ m₁ h₁ p b. subst (λ (x : ℕ). Agrees kinds lengths bytes m₁
+      (begun kinds lengths (with-point
+      (opened-read t (t .begun + 1) len (is-empty (listed ks ls (drop (t .writes) bytes)))) p)) b
+      (each-operation (mode-of (t .mode)) x (listed ks ls (drop (t .writes) bytes)) n (λ _. ends Accepted)))
+      same
+      (operations-agree n ks ls (with-point
+      (opened-read t (t .begun + 1) len (is-empty (listed ks ls (drop (t .writes) bytes)))) p) m₁ h₁ b
+      (read-left t kind len ks ls (is-empty (listed ks ls (drop (t .writes) bytes))) p left q .0)))
       b (t .mode) false (left .no-restart) room))

@@ -13,8 +13,8 @@ use Rattle.regs.proofs.Refine.{ends-agree}
 use Rattle.master.specs.Blocking.{read-blocking-internal, write-blocking-internal}
 use Rattle.master.specs.Async.{read-async-internal}
 use Rattle.master.specs.Transfer.{read-internal, write-internal}
-use Rattle.transfer.specs.Points.{with-point, mode-of}
-use Rattle.transfer.specs.Machine.{next-at, write-point, read-point, some-read}
+use Rattle.transfer.specs.inner.Points.{with-point, mode-of}
+use Rattle.transfer.specs.inner.Machine.{next-at, write-point, read-point, some-read}
 use Rattle.transfer.specs.declared.Transfer.{Transfer}
 use Rattle.transfer.specs.declared.Mode.{Mode}
 use Rattle.transfer.specs.declared.Mode.the-variants.{Blocking, Async}
@@ -27,25 +27,34 @@ use Rattle.i2c.proofs.ReadsAsync.{read-async-agrees}
 use Rattle.i2c.proofs.WritesAsync.{write-async-agrees}
 
 module _ (kinds lengths bytes : List ℕ) where
-  module _ (t : Transfer) (k : Unit {0} → Behaviour (Unit {0}) Answer) (top n m : ℕ) (h : m ≤ top) (l : m ≤ n) (good : Good kinds lengths bytes t k top) (b : List ℕ) where
+  module _ (t : Transfer) (k : Unit {0} → Behaviour (Unit {0}) Answer) (top n m : ℕ) (h : m ≤ top) (l : m ≤ n)
+      (good : Good kinds lengths bytes t k top) (b : List ℕ) where
     -- a read operation that is empty, or not
     empty-read : (mode : Mode) → eqb (t .len) 0 ≡ true
-        → Agrees kinds lengths bytes m (with-point t (read-point mode (t .len))) b (read-internal (mode-of mode) (t .at) (t .len) (t .restart) (t .«send_stop») n k)
+        → Agrees kinds lengths bytes m (with-point t (read-point mode (t .len))) b
+        (read-internal (mode-of mode) (t .at) (t .len) (t .restart) (t .«send_stop») n k)
     unfolding read-point read-blocking-internal read-async-internal next-at
     empty-read Blocking q = rw q (ends-agree (M kinds lengths bytes) m refl)
     empty-read Async q = rw q (ends-agree (M kinds lengths bytes) m refl)
 
     full-read : (mode : Mode) → t .at + t .len ≤ 4096 → eqb (t .len) 0 ≡ false
-        → Agrees kinds lengths bytes m (with-point t (read-point mode (t .len))) b (read-internal (mode-of mode) (t .at) (t .len) (t .restart) (t .«send_stop») n k)
+        → Agrees kinds lengths bytes m (with-point t (read-point mode (t .len))) b
+        (read-internal (mode-of mode) (t .at) (t .len) (t .restart) (t .«send_stop») n k)
     unfolding read-point some-read
-    full-read Blocking small q = rw q (read-blocking-agrees kinds lengths bytes t small k top n good m h l (omega (arith, eqb-false (t .len) 0 q)) b)
-    full-read Async small q = rw q (read-async-agrees kinds lengths bytes t k top n m h l (omega (arith, eqb-false (t .len) 0 q)) small good b)
+    full-read Blocking small q = rw q
+        (read-blocking-agrees kinds lengths bytes t small k top n good m h l (omega (arith, eqb-false (t .len) 0 q))
+        b)
+    full-read Async small q = rw q
+        (read-async-agrees kinds lengths bytes t k top n m h l (omega (arith, eqb-false (t .len) 0 q)) small good b)
 
     pub read-agrees : (mode : Mode) (restart : Bool) → t .restart ≡ restart → t .at + t .len ≤ 4096
-        → Agrees kinds lengths bytes m (with-point t (read-point mode (t .len))) b (read-internal (mode-of mode) (t .at) (t .len) restart (t .«send_stop») n k)
+        → Agrees kinds lengths bytes m (with-point t (read-point mode (t .len))) b
+        (read-internal (mode-of mode) (t .at) (t .len) restart (t .«send_stop») n k)
     read-agrees mode restart e small = rw (← e) (by-test (eqb (t .len) 0) (λ q. empty-read mode q) (λ q. full-read mode small q))
 
-    empty-write : eqb (t .len) 0 ≡ true → Agrees kinds lengths bytes m (with-point t (write-point Blocking (t .len))) b (write-blocking-internal [] (t .«send_stop») n k)
+    empty-write : eqb (t .len) 0 ≡ true
+        → Agrees kinds lengths bytes m (with-point t (write-point Blocking (t .len))) b
+        (write-blocking-internal [] (t .«send_stop») n k)
     unfolding write-point write-blocking-internal next-at
     empty-write q = rw q (ends-agree (M kinds lengths bytes) m refl)
 
@@ -53,5 +62,7 @@ module _ (kinds lengths bytes : List ℕ) where
         → Agrees kinds lengths bytes m (with-point t (write-point mode (t .len))) b (write-internal (mode-of mode) ws (t .«send_stop») n k)
     unfolding write-point
     write-agrees Blocking [] held = empty-write (eq-eqb (t .len) 0 (omega (arith, held .sum)))
-    write-agrees Blocking (byte ∷ ws) held = rw (ne-eqb (t .len) 0 (λ z. omega (arith, held .sum))) (write-blocking-agrees kinds lengths bytes t k top n good (byte ∷ ws) m h l b held (omega (arith, held .sum)))
+    write-agrees Blocking (byte ∷ ws) held = rw (ne-eqb (t .len) 0 (λ z. omega (arith, held .sum)))
+        (write-blocking-agrees kinds lengths bytes t k top n good (byte ∷ ws) m h l b held
+        (omega (arith, held .sum)))
     write-agrees Async ws held = write-async-agrees kinds lengths bytes t k top n m h l ws held good b

@@ -13,7 +13,7 @@ use borrow.Author.Tests.{eqb-true, ne-eqb}
 use Rattle.regs.proofs.Tests.{by-test}
 use Rattle.regs.specs.Program.{if_then_else_}
 use Rattle.master.specs.Operations.{total, known, fits, READ, WRITE}
-use Rattle.i2c.specs.Limits.{add-total, add-totals, Small, add-up}
+use Rattle.i2c.specs.inner.Limits.{add-total, add-totals, Small, add-up}
 use Rattle.i2c.specs.declared.limits.Totals.{Totals}
 use Rattle.i2c.specs.declared.limits.Totals.the-variants.{Sums, Unknown}
 
@@ -25,7 +25,8 @@ stays-unknown (kind ∷ kinds) [] = refl
 stays-unknown (kind ∷ kinds) (n ∷ lengths) = stays-unknown kinds lengths
 
 pub sums-are : (kinds lengths : List ℕ) (w r : ℕ) → length kinds ≡ length lengths
-    → add-totals (Sums w r) kinds lengths ≡ (if known kinds then Sums (w + total WRITE kinds lengths) (r + total READ kinds lengths) else Unknown)
+    → add-totals (Sums w r) kinds lengths
+    ≡ (if known kinds then Sums (w + total WRITE kinds lengths) (r + total READ kinds lengths) else Unknown)
 unfolding add-totals add-total known total
 sums-are [] lengths w r e = rw (add-zero w, add-zero r)
 sums-are (kind ∷ kinds) [] w r e = absurd (omega (arith, e))
@@ -39,7 +40,9 @@ sums-are (kind ∷ kinds) (n ∷ lengths) w r e =
 
 -- what is asked of them
 pub adds-up : (kinds lengths : List ℕ) (written room : ℕ) → length kinds ≡ length lengths
-    → add-up (add-totals (Sums 0 0) kinds lengths) written room ≡ (known kinds && (eqb (total WRITE kinds lengths) written && (eqb (total READ kinds lengths) room && (fits written && fits room))))
+    → add-up (add-totals (Sums 0 0) kinds lengths) written room
+    ≡ (known kinds && (eqb (total WRITE kinds lengths) written
+    && (eqb (total READ kinds lengths) room && (fits written && fits room))))
 unfolding add-up
 adds-up kinds lengths written room e =
     rw (sums-are kinds lengths 0 0 e, zero-add (total WRITE kinds lengths), zero-add (total READ kinds lengths))
@@ -47,7 +50,8 @@ adds-up kinds lengths written room e =
 
 -- one operation more
 pub next-total : (kinds lengths : List ℕ) (i : ℕ) (t : Totals) → length kinds ≡ length lengths → i + 1 ≤ length kinds
-    → add-totals t (drop i kinds) (drop i lengths) ≡ add-totals (add-total t (getD kinds i 0) (getD lengths i 0)) (drop (i + 1) kinds) (drop (i + 1) lengths)
+    → add-totals t (drop i kinds) (drop i lengths) ≡ add-totals (add-total t (getD kinds i 0) (getD lengths i 0))
+    (drop (i + 1) kinds) (drop (i + 1) lengths)
 unfolding add-totals
 next-total kinds lengths i t e h = rw (drop-cons kinds i 0 (omega arith), drop-cons lengths i 0 (omega arith), ← add-one i)
 
@@ -59,7 +63,11 @@ pub record Adding (kinds lengths : List ℕ) (t : Totals) (i : ℕ) : Type 0 whe
   pub as-many : length kinds ≡ length lengths
   pub few : length kinds ≤ 64
 
-pub adding-more : (kinds lengths : List ℕ) (t t′ : Totals) (i kind n : ℕ) → Adding kinds lengths t i → i < length kinds → kind ≡ getD kinds i 0 → n ≡ getD lengths i 0
+pub adding-more : (kinds lengths : List ℕ) (t t′ : Totals) (i kind n : ℕ)
+    → Adding kinds lengths t i
+    → i < length kinds
+    → kind ≡ getD kinds i 0
+    → n ≡ getD lengths i 0
     → (t′ ≡ add-total t kind n) × Small t′ (i + 1) → Adding kinds lengths t′ (i + 1)
 adding-more kinds lengths t t′ i kind n a h ek en e =
     record {
@@ -70,6 +78,9 @@ adding-more kinds lengths t t′ i kind n a h ek en e =
       few = a .few;
     }
 
-pub all-added : (kinds lengths : List ℕ) (t : Totals) (i : ℕ) → Adding kinds lengths t i → length kinds ≤ i → t ≡ add-totals (Sums 0 0) kinds lengths
+pub all-added : (kinds lengths : List ℕ) (t : Totals) (i : ℕ)
+    → Adding kinds lengths t i
+    → length kinds ≤ i
+    → t ≡ add-totals (Sums 0 0) kinds lengths
 unfolding add-totals
 all-added kinds lengths t i a h = rw (drop-of-length-le kinds h) at (a .same)

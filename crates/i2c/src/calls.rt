@@ -1,4 +1,5 @@
-// The eight transfers, in the Rust's names. Each is given the lent buffers, the readings and the log; what it leaves is the outcome of the Rust on them.
+// The eight transfers, in the Rust's names. Each is given the lent buffers,
+// the readings and the log; what it leaves is the outcome of the Rust on them.
 use super::limits::are_fitting;
 use super::limits::is_fitting;
 use super::limits::is_listed;
@@ -11,10 +12,13 @@ ghost use lib.ListN.{length};
 ghost use Rattle.regs.specs.Log.{Leaves, LeavesBuffer, expected};
 ghost use Rattle.master.specs.Operations as Spec;
 ghost use Rattle.master.specs.Transfer.{read-call, write-call, write-read-call, transaction-call};
-ghost use Rattle.transfer.specs.Points.{mode-of};
+ghost use Rattle.transfer.specs.inner.Points.{mode-of};
 
 fn read_by(mode: Mode, address: u16, read: &mut [u8], readings: &[u32], log: &mut [u32]) -> Ran
-    ensures { λ r. ⌜ LeavesBuffer (expected (read-call (mode-of mode) address (length (now (read .entry)))) (now (log .entry)) (now (readings .entry)) (now (read .entry)) tt) (now (log .entry)) (now (log .exit)) (now (read .exit)) r ⌝ }
+    ensures { λ r. ⌜ LeavesBuffer
+        (expected (read-call (mode-of mode) address (length (now (read .entry)))) (now (log .entry))
+        (now (readings .entry)) (now (read .entry)) tt)
+        (now (log .entry)) (now (log .exit)) (now (read .exit)) r ⌝ }
 {
     let n = read.len();
     if is_fitting(n) {
@@ -28,7 +32,10 @@ fn read_by(mode: Mode, address: u16, read: &mut [u8], readings: &[u32], log: &mu
 }
 
 fn write_by(mode: Mode, address: u16, write: &[u8], readings: &[u32], log: &mut [u32]) -> Ran
-    ensures { λ r. ⌜ Leaves (expected (write-call (mode-of mode) address (now (write .entry))) (now (log .entry)) (now (readings .entry)) [] tt) (now (log .entry)) (now (log .exit)) r ⌝ }
+    ensures { λ r. ⌜ Leaves
+        (expected (write-call (mode-of mode) address (now (write .entry))) (now (log .entry))
+        (now (readings .entry)) [] tt)
+        (now (log .entry)) (now (log .exit)) r ⌝ }
 {
     let n = write.len();
     if is_fitting(n) {
@@ -50,7 +57,10 @@ fn write_read_by(
     readings: &[u32],
     log: &mut [u32],
 ) -> Ran
-    ensures { λ r. ⌜ LeavesBuffer (expected (write-read-call (mode-of mode) address (now (write .entry)) (length (now (read .entry)))) (now (log .entry)) (now (readings .entry)) (now (read .entry)) tt) (now (log .entry)) (now (log .exit)) (now (read .exit)) r ⌝ }
+    ensures { λ r. ⌜ LeavesBuffer
+        (expected (write-read-call (mode-of mode) address (now (write .entry)) (length (now (read .entry))))
+        (now (log .entry)) (now (readings .entry)) (now (read .entry)) tt)
+        (now (log .entry)) (now (log .exit)) (now (read .exit)) r ⌝ }
 {
     let m = write.len();
     let n = read.len();
@@ -74,7 +84,11 @@ fn transaction_by(
     readings: &[u32],
     log: &mut [u32],
 ) -> Ran
-    ensures { λ r. ⌜ LeavesBuffer (expected (transaction-call (mode-of mode) address (now (kinds .entry)) (now (lengths .entry)) (now (write .entry)) (length (now (read .entry)))) (now (log .entry)) (now (readings .entry)) (now (read .entry)) tt) (now (log .entry)) (now (log .exit)) (now (read .exit)) r ⌝ }
+    ensures { λ r. ⌜ LeavesBuffer
+        (expected (transaction-call (mode-of mode) address (now (kinds .entry)) (now (lengths .entry))
+        (now (write .entry)) (length (now (read .entry))))
+        (now (log .entry)) (now (readings .entry)) (now (read .entry)) tt)
+        (now (log .entry)) (now (log .exit)) (now (read .exit)) r ⌝ }
 {
     if is_listed(kinds, lengths, write.len(), read.len()) {
         let t = transfer_steps::start(mode, false, address, kinds);
@@ -86,14 +100,20 @@ fn transaction_by(
 
 // Reads from the address into the buffer, and ends when it is done.
 pub fn blocking_read(address: u16, read: &mut [u8], readings: &[u32], log: &mut [u32]) -> Ran
-    ensures { λ r. ⌜ LeavesBuffer (expected (read-call Spec.blocking address (length (now (read .entry)))) (now (log .entry)) (now (readings .entry)) (now (read .entry)) tt) (now (log .entry)) (now (log .exit)) (now (read .exit)) r ⌝ }
+    ensures { λ r. ⌜ LeavesBuffer
+        (expected (read-call Spec.blocking address (length (now (read .entry)))) (now (log .entry))
+        (now (readings .entry)) (now (read .entry)) tt)
+        (now (log .entry)) (now (log .exit)) (now (read .exit)) r ⌝ }
 {
     read_by(Mode::Blocking, address, read, readings, log)
 }
 
 // Writes the bytes to the address, and ends when it is done.
 pub fn blocking_write(address: u16, write: &[u8], readings: &[u32], log: &mut [u32]) -> Ran
-    ensures { λ r. ⌜ Leaves (expected (write-call Spec.blocking address (now (write .entry))) (now (log .entry)) (now (readings .entry)) [] tt) (now (log .entry)) (now (log .exit)) r ⌝ }
+    ensures { λ r. ⌜ Leaves
+        (expected (write-call Spec.blocking address (now (write .entry))) (now (log .entry))
+        (now (readings .entry)) [] tt)
+        (now (log .entry)) (now (log .exit)) r ⌝ }
 {
     write_by(Mode::Blocking, address, write, readings, log)
 }
@@ -106,12 +126,16 @@ pub fn blocking_write_read(
     readings: &[u32],
     log: &mut [u32],
 ) -> Ran
-    ensures { λ r. ⌜ LeavesBuffer (expected (write-read-call Spec.blocking address (now (write .entry)) (length (now (read .entry)))) (now (log .entry)) (now (readings .entry)) (now (read .entry)) tt) (now (log .entry)) (now (log .exit)) (now (read .exit)) r ⌝ }
+    ensures { λ r. ⌜ LeavesBuffer
+        (expected (write-read-call Spec.blocking address (now (write .entry)) (length (now (read .entry))))
+        (now (log .entry)) (now (readings .entry)) (now (read .entry)) tt)
+        (now (log .entry)) (now (log .exit)) (now (read .exit)) r ⌝ }
 {
     write_read_by(Mode::Blocking, address, write, read, readings, log)
 }
 
-// The operations that kinds (0 a read, 1 a write) and lengths list, beside one write and one read buffer, and ends when it is done.
+// The operations that kinds (0 a read, 1 a write) and lengths list,
+// beside one write and one read buffer, and ends when it is done.
 pub fn transaction(
     address: u16,
     kinds: &[u8],
@@ -121,7 +145,11 @@ pub fn transaction(
     readings: &[u32],
     log: &mut [u32],
 ) -> Ran
-    ensures { λ r. ⌜ LeavesBuffer (expected (transaction-call Spec.blocking address (now (kinds .entry)) (now (lengths .entry)) (now (write .entry)) (length (now (read .entry)))) (now (log .entry)) (now (readings .entry)) (now (read .entry)) tt) (now (log .entry)) (now (log .exit)) (now (read .exit)) r ⌝ }
+    ensures { λ r. ⌜ LeavesBuffer
+        (expected (transaction-call Spec.blocking address (now (kinds .entry)) (now (lengths .entry))
+        (now (write .entry)) (length (now (read .entry))))
+        (now (log .entry)) (now (readings .entry)) (now (read .entry)) tt)
+        (now (log .entry)) (now (log .exit)) (now (read .exit)) r ⌝ }
 {
     transaction_by(
         Mode::Blocking,
@@ -137,14 +165,20 @@ pub fn transaction(
 
 // Reads from the address into the buffer, by polls.
 pub fn read_async(address: u16, read: &mut [u8], readings: &[u32], log: &mut [u32]) -> Ran
-    ensures { λ r. ⌜ LeavesBuffer (expected (read-call Spec.async address (length (now (read .entry)))) (now (log .entry)) (now (readings .entry)) (now (read .entry)) tt) (now (log .entry)) (now (log .exit)) (now (read .exit)) r ⌝ }
+    ensures { λ r. ⌜ LeavesBuffer
+        (expected (read-call Spec.async address (length (now (read .entry)))) (now (log .entry))
+        (now (readings .entry)) (now (read .entry)) tt)
+        (now (log .entry)) (now (log .exit)) (now (read .exit)) r ⌝ }
 {
     read_by(Mode::Async, address, read, readings, log)
 }
 
 // Writes the bytes to the address, by polls.
 pub fn write_async(address: u16, write: &[u8], readings: &[u32], log: &mut [u32]) -> Ran
-    ensures { λ r. ⌜ Leaves (expected (write-call Spec.async address (now (write .entry))) (now (log .entry)) (now (readings .entry)) [] tt) (now (log .entry)) (now (log .exit)) r ⌝ }
+    ensures { λ r. ⌜ Leaves
+        (expected (write-call Spec.async address (now (write .entry))) (now (log .entry))
+        (now (readings .entry)) [] tt)
+        (now (log .entry)) (now (log .exit)) r ⌝ }
 {
     write_by(Mode::Async, address, write, readings, log)
 }
@@ -157,12 +191,16 @@ pub fn write_read_async(
     readings: &[u32],
     log: &mut [u32],
 ) -> Ran
-    ensures { λ r. ⌜ LeavesBuffer (expected (write-read-call Spec.async address (now (write .entry)) (length (now (read .entry)))) (now (log .entry)) (now (readings .entry)) (now (read .entry)) tt) (now (log .entry)) (now (log .exit)) (now (read .exit)) r ⌝ }
+    ensures { λ r. ⌜ LeavesBuffer
+        (expected (write-read-call Spec.async address (now (write .entry)) (length (now (read .entry))))
+        (now (log .entry)) (now (readings .entry)) (now (read .entry)) tt)
+        (now (log .entry)) (now (log .exit)) (now (read .exit)) r ⌝ }
 {
     write_read_by(Mode::Async, address, write, read, readings, log)
 }
 
-// The operations that kinds (0 a read, 1 a write) and lengths list, beside one write and one read buffer, by polls.
+// The operations that kinds (0 a read, 1 a write) and lengths
+// list, beside one write and one read buffer, by polls.
 pub fn transaction_async(
     address: u16,
     kinds: &[u8],
@@ -172,7 +210,11 @@ pub fn transaction_async(
     readings: &[u32],
     log: &mut [u32],
 ) -> Ran
-    ensures { λ r. ⌜ LeavesBuffer (expected (transaction-call Spec.async address (now (kinds .entry)) (now (lengths .entry)) (now (write .entry)) (length (now (read .entry)))) (now (log .entry)) (now (readings .entry)) (now (read .entry)) tt) (now (log .entry)) (now (log .exit)) (now (read .exit)) r ⌝ }
+    ensures { λ r. ⌜ LeavesBuffer
+        (expected (transaction-call Spec.async address (now (kinds .entry)) (now (lengths .entry))
+        (now (write .entry)) (length (now (read .entry))))
+        (now (log .entry)) (now (readings .entry)) (now (read .entry)) tt)
+        (now (log .entry)) (now (log .exit)) (now (read .exit)) r ⌝ }
 {
     transaction_by(
         Mode::Async,

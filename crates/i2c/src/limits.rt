@@ -8,7 +8,7 @@ ghost use mathlib.Core.Bool.{_&&_};
 ghost use Prim.Native.Nat.{_+_, _≤_};
 ghost use lib.ListN.{length};
 ghost use Rattle.master.specs.Operations.{fits, lists};
-ghost use Rattle.i2c.specs.Limits.{add-total, add-totals, Small, add-up, refused-over};
+ghost use Rattle.i2c.specs.inner.Limits.{add-total, add-totals, Small, add-up, refused-over};
 
 pub const MOST_BYTES: usize = 4096;
 

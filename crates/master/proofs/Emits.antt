@@ -48,7 +48,8 @@ Ended (Heard command) due = ⊥
 Ended (Responded status) due = ⊥
 Ended (Refused refusal) due = Unit {0}
 
--- on every accepted path the behaviour leaves TAR alone and writes the words that are due, where so many read words were issued and bytes taken before
+-- on every accepted path the behaviour leaves TAR alone and writes the words
+-- that are due, where so many read words were issued and bytes taken before
 abbrev pub Emits : Does → ℕ → ℕ → List ℕ → Type 0
 Emits (ends a) issued taken due = Ended a due
 Emits (reads r f) issued taken due = (v : ℕ) → Possible r v issued taken → Emits (f v) issued (taken-by r taken) due
@@ -82,7 +83,8 @@ emits-sound (reads r f) (suc n) [] b i t due e good l = (cc, cc)
 emits-sound (reads r f) (suc n) (v ∷ rs) b i t due e good l = emits-sound (f v) n rs b i (taken-by r t) due (e v (l .0)) good (l .1)
 emits-sound (writes r w p) zero rs b i t due e good l = (cc, cc)
 emits-sound (writes r w p) (suc n) rs b i t due e good l =
-    due-written (eqb r DATA-CMD) w due _ _ (λ rest. Emits p (issued-by r w i) t rest) (e .0) (e .1) (λ rest h. emits-sound p n rs b (issued-by r w i) t rest h good l)
+    due-written (eqb r DATA-CMD) w due _ _ (λ rest. Emits p (issued-by r w i) t rest) (e .0) (e .1)
+    (λ rest h. emits-sound p n rs b (issued-by r w i) t rest h good l)
 emits-sound (marks x p) zero rs b i t due e good l = (cc, cc)
 emits-sound (marks x p) (suc n) rs b i t due e good l = emits-sound p n rs b i t due e good l
 emits-sound (stores j x p) n rs b i t due e good l = emits-sound p n rs (set b j x) i t due e good l

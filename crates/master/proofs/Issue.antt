@@ -15,13 +15,17 @@ use Rattle.regs.specs.Program as P
 use Rattle.regs.specs.Program.{if_then_else_, _>>=_, done, by-turn, rounds, pending, ready, polled, ok, err}
 use Rattle.master.specs.Driver.{Driver, Tried, try, rx-fifo-len}
 use Rattle.master.specs.Blocking.{read-blocking-bytes, read-blocking-internal, write-blocking-bytes, write-blocking-internal}
-use Rattle.master.specs.Async.{is-empty, queue-batch, batch-come, batch-poll, stop-poll, wait-stop-det, space-poll, fetch-bytes, read-round, read-async-internal, Filled, break-xmit, full, fill, go-on, xmit, write-async-internal}
+use Rattle.master.specs.Async.{is-empty, queue-batch, batch-come, batch-poll, stop-poll, wait-stop-det}
+use Rattle.master.specs.Async.{space-poll, fetch-bytes, read-round, read-async-internal, Filled, break-xmit}
+use Rattle.master.specs.Async.{full, fill, go-on, xmit, write-async-internal}
 use Rattle.master.specs.Operations.{Operation, writes, reads, Mode, blocking, async}
 use Rattle.master.specs.Transfer.{read-internal, write-internal, each-operation}
 use Rattle.master.proofs.Words.{read-words, write-words, all-words}
 use Rattle.master.proofs.Sequence.{Bytes, OfBytes}
 use Rattle.master.proofs.Emits.{Does, Emits}
-use Rattle.master.proofs.Quiet.{Quiet, emits-if, emits-when, quiet-while, quiet-while-test, quiet-wait-on, quiet-capacity, quiet-full, quiet-len, quiet-abort, quiet-try, quiet-space-poll, quiet-stop-poll, quiet-wait-stop-det}
+use Rattle.master.proofs.Quiet.{Quiet, emits-if, emits-when, quiet-while, quiet-while-test, quiet-wait-on}
+use Rattle.master.proofs.Quiet.{quiet-capacity, quiet-full, quiet-len, quiet-abort, quiet-try}
+use Rattle.master.proofs.Quiet.{quiet-space-poll, quiet-stop-poll, quiet-wait-stop-det}
 
 -- one word
 
@@ -48,7 +52,20 @@ same-test a b c d to from = go (eqb c d) refl
     go true e = eq-eqb a b (from (eqb-true c d e))
     go false e = ne-eqb a b (λ x. eqb-false c d e (to x))
 
-ruleset quiet = (emits-if, emits-when, quiet-while, quiet-while-test, quiet-wait-on, quiet-capacity, quiet-full, quiet-len, quiet-abort, quiet-try, quiet-space-poll, quiet-wait-stop-det)
+ruleset quiet = (
+  emits-if,
+  emits-when,
+  quiet-while,
+  quiet-while-test,
+  quiet-wait-on,
+  quiet-capacity,
+  quiet-full,
+  quiet-len,
+  quiet-abort,
+  quiet-try,
+  quiet-space-poll,
+  quiet-wait-stop-det,
+)
 
 -- blocking
 
@@ -79,7 +96,9 @@ module _ (len : ℕ) (stop : Bool) (rest : List ℕ) (n : ℕ) (k : Unit {0} →
 
 -- the async read
 
-fetched : (n : ℕ) (k : Unit {0} → Does) (i : ℕ) (due : List ℕ) (m at t : ℕ) → Emits (k tt) i (t + m) due → Emits (fetch-bytes at m n k) i t due
+fetched : (n : ℕ) (k : Unit {0} → Does) (i : ℕ) (due : List ℕ) (m at t : ℕ)
+    → Emits (k tt) i (t + m) due
+    → Emits (fetch-bytes at m n k) i t due
 unfolding fetch-bytes
 fetched n k i due zero at t h = let e : t ≡ t + 0 = omega arith in rw e h
 fetched n k i due (suc m) at t h = λ v _. fetched n k i due m (at + 1) (suc t) (let e : suc t + m ≡ t + suc m = omega arith in rw e h)
@@ -108,7 +127,8 @@ module _ (len : ℕ) (restart stop : Bool) (rest : List ℕ) (n : ℕ) (k : Unit
 
 -- a poll that is ready has the whole batch, and no more than was asked for
 module _ (batch i t : ℕ) (due : List ℕ) (n : ℕ) (g : Driver (Unit {0})) (quiet-g : Quiet g) (k : Tried ℕ → Does)
-    (aborted : (reason : AbortReason) → Emits (k (err reason)) i t due) (come : (v : ℕ) → batch ≤ v → v + t ≤ i → Emits (k (ok v)) i t due) where
+    (aborted : (reason : AbortReason) → Emits (k (err reason)) i t due)
+    (come : (v : ℕ) → batch ≤ v → v + t ≤ i → Emits (k (ok v)) i t due) where
   abbrev waits : ℕ → Does
   waits left = rounds left n (λ (_ : Unit {0}). batch-poll batch >>= polled g) tt k
 
@@ -129,9 +149,11 @@ module _ (batch i t : ℕ) (due : List ℕ) (n : ℕ) (g : Driver (Unit {0})) (q
 
 -- a round takes exactly its batch, so the words still to queue and the bytes still to take are as many at the start of each round
 module _ (offset len : ℕ) (restart stop : Bool) (rest : List ℕ) (n : ℕ) (k : Tried (Unit {0}) → Does)
-    (aborted : (reason : AbortReason) (i t : ℕ) (due : List ℕ) → Emits (k (err reason)) i t due) (done : (j : ℕ) → Emits (k (ok tt)) j j rest) where
+    (aborted : (reason : AbortReason) (i t : ℕ) (due : List ℕ) → Emits (k (err reason)) i t due)
+    (done : (j : ℕ) → Emits (k (ok tt)) j j rest) where
   rounds-read : (left r i : ℕ) → r ≤ len
-      → Emits (rounds left n (read-round offset len restart stop) (record { remaining = r; remaining-queue = r }) k) i i (last-words len restart stop rest r)
+      → Emits (rounds left n (read-round offset len restart stop) (record { remaining = r; remaining-queue = r }) k)
+      i i (last-words len restart stop rest r)
   unfolding rounds read-words
   rounds-read zero r i fits = tt
   rounds-read (suc left) zero i fits = done i
@@ -146,20 +168,28 @@ module _ (offset len : ℕ) (restart stop : Bool) (rest : List ℕ) (n : ℕ) (k
 -- the async write
 
 module _ (stop : Bool) (rest : List ℕ) (n j : ℕ) where
-  filled : (k : Filled → Does) → Emits (k break-xmit) j j rest → ((bs : List ℕ) → Bytes bs → Emits (k (full bs)) j j (write-words stop bs ++ rest))
+  filled : (k : Filled → Does)
+      → Emits (k break-xmit) j j rest
+      → ((bs : List ℕ) → Bytes bs → Emits (k (full bs)) j j (write-words stop bs ++ rest))
       → (space : ℕ) (bs : List ℕ) → Bytes bs → Emits (fill stop space bs n k) j j (write-words stop bs ++ rest)
   unfolding fill write-words
   filled k ended go zero bs small = go bs small
   filled k ended go (suc space) [] small = ended
   filled k ended go (suc space) (b ∷ bs) small =
-      rw (and-comm (is-empty bs) stop) (refl, (refl, rw (writes-cmd b (stop && is-empty bs) (small .0)) (filled k ended go space bs (small .1))))
+      rw (and-comm (is-empty bs) stop) (
+        refl,
+        (refl, rw (writes-cmd b (stop && is-empty bs) (small .0)) (filled k ended go space bs (small .1))),
+      )
 
-  module _ (k : Tried (Unit {0}) → Does) (aborted : (reason : AbortReason) (due : List ℕ) → Emits (k (err reason)) j j due) (ended : Emits (k (ok tt)) j j rest) where
+  module _ (k : Tried (Unit {0}) → Does)
+      (aborted : (reason : AbortReason) (due : List ℕ) → Emits (k (err reason)) j j due)
+      (ended : Emits (k (ok tt)) j j rest) where
     rounds-written : (left : ℕ) (bs : List ℕ) → Bytes bs → Emits (rounds left n (xmit stop) bs k) j j (write-words stop bs ++ rest)
     unfolding rounds
     rounds-written zero bs small = tt
     rounds-written (suc left) bs small = quiet-capacity n _ j j _ (λ space. filled _ ended (λ cs small.
-        quiet-wait-on tt (λ _. space-poll) _ (λ _. quiet-space-poll) (λ n k i t due h. (refl, λ v _. (refl, h tt))) n _ j j _ (gone-on cs (rounds-written left cs small))) space bs small)
+        quiet-wait-on tt (λ _. space-poll) _ (λ _. quiet-space-poll) (λ n k i t due h. (refl, λ v _. (refl, h tt)))
+        n _ j j _ (gone-on cs (rounds-written left cs small))) space bs small)
       where
         gone-on : (cs : List ℕ) → Emits (rounds left n (xmit stop) cs k) j j (write-words stop cs ++ rest) → (res : Tried (Unit {0}))
             → Emits (by-turn (go-on cs res) (λ ds. rounds left n (xmit stop) ds k) k) j j (write-words stop cs ++ rest)
@@ -171,12 +201,14 @@ abort-refused : (reason : AbortReason) (stop : Bool) (n : ℕ) (k : Unit {0} →
     → Emits (wait-stop-det (err reason) stop n (λ res. try res n k)) i t due
 unfolding wait-stop-det
 abort-refused reason stop n k i t due =
-    quiet-wait-on tt (λ _. stop-poll (err reason)) _ (λ _. quiet-stop-poll (err reason)) (λ n k i t due h v _. (refl, h tt)) n _ i t due (λ res v _. tt)
+    quiet-wait-on tt (λ _. stop-poll (err reason)) _ (λ _. quiet-stop-poll (err reason))
+    (λ n k i t due h v _. (refl, h tt)) n _ i t due (λ res v _. tt)
 
 -- both modes together
 
 -- a read issues its words, and takes as many bytes as it issues words
-pub read-issues : (mode : Mode) (offset len : ℕ) (restart stop : Bool) (rest : List ℕ) (n : ℕ) (k : Unit {0} → Does) → ((j : ℕ) → Emits (k tt) j j rest)
+pub read-issues : (mode : Mode) (offset len : ℕ) (restart stop : Bool) (rest : List ℕ) (n : ℕ) (k : Unit {0} → Does)
+    → ((j : ℕ) → Emits (k tt) j j rest)
     → (i : ℕ) → Emits (read-internal mode offset len restart stop n k) i i (read-words restart stop len ++ rest)
 unfolding read-blocking-internal read-async-internal
 read-issues blocking offset len restart stop rest n k ended i =
@@ -184,10 +216,14 @@ read-issues blocking offset len restart stop rest n k ended i =
 read-issues async offset len restart stop rest n k ended i =
     let stopped : (j : ℕ) → Emits (wait-stop-det (ok tt) stop n (λ res. try res n k)) j j rest = λ j. search quiet in
     let issues = rw (eq-eqb len len refl, and-true restart) at
-    (rounds-read offset len restart stop rest n (λ r. wait-stop-det r stop n (λ res. try res n k)) (λ reason i t due. abort-refused reason stop n k i t due) stopped n len i (omega arith)) in
+    (rounds-read offset len restart stop rest n (λ r. wait-stop-det r stop n (λ res. try res n k))
+    (λ reason i t due. abort-refused reason stop n k i t due) stopped n len i (omega arith)) in
     search emits-when
 
-pub write-issues : (mode : Mode) (bs : List ℕ) → Bytes bs → (stop : Bool) (rest : List ℕ) (n : ℕ) (k : Unit {0} → Does) (i : ℕ) → Emits (k tt) i i rest
+pub write-issues : (mode : Mode) (bs : List ℕ)
+    → Bytes bs
+    → (stop : Bool) (rest : List ℕ) (n : ℕ) (k : Unit {0} → Does) (i : ℕ)
+    → Emits (k tt) i i rest
     → Emits (write-internal mode bs stop n k) i i (write-words stop bs ++ rest)
 unfolding write-blocking-internal write-async-internal
 write-issues blocking bs small stop rest n k i ended =
@@ -197,7 +233,10 @@ write-issues async bs small stop rest n k i ended =
     rounds-written stop rest n i _ (λ reason due. abort-refused reason stop n k i i due) stopped n bs small
 
 -- a transaction's operations issue their words, with no RESTART flag and one STOP
-pub operations-issue : (mode : Mode) (n : ℕ) (k : Unit {0} → Does) → ((j : ℕ) → Emits (k tt) j j []) → (os : List (Operation ℕ)) → Each OfBytes os
+pub operations-issue : (mode : Mode) (n : ℕ) (k : Unit {0} → Does)
+    → ((j : ℕ) → Emits (k tt) j j [])
+    → (os : List (Operation ℕ))
+    → Each OfBytes os
     → (offset i : ℕ) → Emits (each-operation mode offset os n k) i i (all-words false os)
 unfolding each-operation all-words
 operations-issue mode n k ended [] bytes offset i = ended i

@@ -5,11 +5,15 @@ use mathlib.Core.List.{List, [], _∷_}
 use Rattle.regs.specs.Program.{ok, err}
 use Rattle.regs.specs.Log.{Legal, Each, expected}
 use Rattle.regs.proofs.Legal.{LegalP, legal, legal-expected}
-use Rattle.master.specs.Driver.{Driver, Tried, try, setup, tx-fifo-capacity, tx-fifo-full, rx-fifo-len, read-and-clear-abort-reason, while-turn}
+use Rattle.master.specs.Driver.{Driver, Tried, try, setup, tx-fifo-capacity, tx-fifo-full, rx-fifo-len}
+use Rattle.master.specs.Driver.{read-and-clear-abort-reason, while-turn}
 use Rattle.master.specs.Blocking.{read-blocking-bytes, read-blocking-internal, write-blocking-bytes, write-blocking-internal}
-use Rattle.master.specs.Async.{wait-stop-det, queue-batch, fetch-bytes, take-batch, read-async-internal, Filled, break-xmit, full, fill, space-come, wait-space, write-async-internal}
+use Rattle.master.specs.Async.{wait-stop-det, queue-batch, fetch-bytes, take-batch, read-async-internal}
+use Rattle.master.specs.Async.{Filled, break-xmit, full, fill, space-come, wait-space, write-async-internal}
 use Rattle.master.specs.Operations.{Operation, writes, reads, Transfer, read, write, write-read, transaction, Mode, blocking, async}
-use Rattle.master.specs.Transfer.{read-internal, write-internal, each-operation, blocking-read, blocking-write, blocking-write-read, blocking-transaction, read-async, write-async, write-read-async, transaction-async, transfer, within}
+use Rattle.master.specs.Transfer.{read-internal, write-internal, each-operation, blocking-read}
+use Rattle.master.specs.Transfer.{blocking-write, blocking-write-read, blocking-transaction, read-async}
+use Rattle.master.specs.Transfer.{write-async, write-read-async, transaction-async, transfer, within}
 
 setup-legal : (address : ℕ) → LegalP (setup address)
 unfolding setup
@@ -43,10 +47,12 @@ ruleset parts = (legal, capacity-legal, full-legal, len-legal, abort-legal, try-
 
 -- blocking
 
-bytes-read-legal : (offset lastindex : ℕ) (restart stop : Bool) (i left : ℕ) → LegalP (read-blocking-bytes offset lastindex restart stop i left)
+bytes-read-legal : (offset lastindex : ℕ) (restart stop : Bool) (i left : ℕ)
+    → LegalP (read-blocking-bytes offset lastindex restart stop i left)
 unfolding read-blocking-bytes
 bytes-read-legal offset lastindex restart stop i zero = search legal
-bytes-read-legal offset lastindex restart stop i (suc left) = let ih = bytes-read-legal offset lastindex restart stop (i + 1) left in search parts depth 20
+bytes-read-legal offset lastindex restart stop i (suc left) =
+    let ih = bytes-read-legal offset lastindex restart stop (i + 1) left in search parts depth 20
 
 bytes-written-legal : (len : ℕ) (stop : Bool) (bs : List ℕ) (i : ℕ) → LegalP (write-blocking-bytes len stop i bs)
 unfolding write-blocking-bytes

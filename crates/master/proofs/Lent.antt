@@ -33,16 +33,21 @@ values-drop zero bytes = refl
 values-drop (suc n) [] = refl
 values-drop (suc n) (b ∷ bytes) = values-drop n bytes
 
-pub plain-listed : (kinds lengths : List ℕ) (bytes : List Byte) → map plain-operation (listed kinds lengths bytes) ≡ listed kinds lengths (values bytes)
+pub plain-listed : (kinds lengths : List ℕ) (bytes : List Byte)
+    → map plain-operation (listed kinds lengths bytes) ≡ listed kinds lengths (values bytes)
 unfolding listed
 plain-listed [] lengths bytes = refl
 plain-listed (kind ∷ kinds) [] bytes = refl
-plain-listed (kind ∷ kinds) (n ∷ lengths) bytes = go (plain-listed kinds lengths (drop n bytes)) (plain-listed kinds lengths bytes) (eqb kind WRITE)
+plain-listed (kind ∷ kinds) (n ∷ lengths) bytes =
+    go (plain-listed kinds lengths (drop n bytes)) (plain-listed kinds lengths bytes) (eqb kind WRITE)
   where
     go : map plain-operation (listed kinds lengths (drop n bytes)) ≡ listed kinds lengths (values (drop n bytes))
         → map plain-operation (listed kinds lengths bytes) ≡ listed kinds lengths (values bytes)
-        → (c : Bool) → map plain-operation (if c then writes (take n bytes) ∷ listed kinds lengths (drop n bytes) else reads n ∷ listed kinds lengths bytes)
-        ≡ (if c then writes (take n (values bytes)) ∷ listed kinds lengths (drop n (values bytes)) else reads n ∷ listed kinds lengths (values bytes))
+        → (c : Bool)
+        → map plain-operation (if c then writes (take n bytes) ∷ listed kinds lengths (drop n bytes) else reads
+        n ∷ listed kinds lengths bytes)
+        ≡ (if c then writes (take n (values bytes)) ∷ listed kinds lengths (drop n (values bytes)) else reads n
+        ∷ listed kinds lengths (values bytes))
     go w r true = rw (w, values-take n bytes, values-drop n bytes)
     go w r false = ap (λ os. reads n ∷ os) r
 
@@ -61,10 +66,14 @@ module _ (mode : Mode) (address : ℕ) (log readings buffer : List ℕ) where
       ≡ left-by (run-of mode address (write bytes) (fits (length (values bytes))) log readings buffer)
   write-is-run bytes = refl
 
-  pub write-read-is-run : (bytes : List Byte) → expected (write-read-call mode address (values bytes) (length buffer)) log readings buffer tt
-      ≡ left-by (run-of mode address (write-read bytes (length buffer)) (fits (length (values bytes)) && fits (length buffer)) log readings buffer)
+  pub write-read-is-run : (bytes : List Byte)
+      → expected (write-read-call mode address (values bytes) (length buffer)) log readings buffer tt
+      ≡ left-by (run-of mode address (write-read bytes (length buffer))
+      (fits (length (values bytes)) && fits (length buffer)) log readings buffer)
   write-read-is-run bytes = refl
 
-  pub transaction-is-run : (kinds lengths : List ℕ) (bytes : List Byte) → expected (transaction-call mode address kinds lengths (values bytes) (length buffer)) log readings buffer tt
-      ≡ left-by (run-of mode address (transaction (listed kinds lengths bytes)) (lists kinds lengths (length (values bytes)) (length buffer)) log readings buffer)
+  pub transaction-is-run : (kinds lengths : List ℕ) (bytes : List Byte)
+      → expected (transaction-call mode address kinds lengths (values bytes) (length buffer)) log readings buffer tt
+      ≡ left-by (run-of mode address (transaction (listed kinds lengths bytes))
+      (lists kinds lengths (length (values bytes)) (length buffer)) log readings buffer)
   transaction-is-run kinds lengths bytes = rw (plain-listed kinds lengths bytes)

@@ -1,6 +1,7 @@
 -- What is proved about the master's definitions alone.
 --     Computed                 examples and corners, computed
---     Demand3                  `same-sequence`, by Emits, Quiet, Issue (each function writes its words), Words, Sequence (words make the sequence), Told (it tells back)
+--     Demand3                  `same-sequence`, by Emits, Quiet, Issue (each function writes its words), Words,
+--                              Sequence (words make the sequence), Told (it tells back)
 --     Needed                   none of its premises can be left out
 --     Lent                     a call's arguments are those of a run of demand 3
 --     Legal                    every access of every transfer is legal

@@ -19,9 +19,12 @@ use Rattle.master.specs.Driver.{setup, tx-fifo-capacity, tx-fifo-full, r
 use Rattle.master.specs.Blocking.{read-blocking-bytes, read-blocking-internal, write-blocking-bytes, write-blocking-internal}
 use Rattle.master.specs.Async.{wait-stop-det, queue-batch, fetch-bytes, read-async-internal, fill, write-async-internal}
 use Rattle.master.specs.Operations.{writes, reads, Transfer, read, write, write-read, transaction, Mode, blocking, async}
-use Rattle.master.specs.Transfer.{each-operation, blocking-read, blocking-write, blocking-write-read, blocking-transaction, read-async, write-async, write-read-async, transaction-async}
+use Rattle.master.specs.Transfer.{each-operation, blocking-read, blocking-write, blocking-write-read}
+use Rattle.master.specs.Transfer.{blocking-transaction, read-async, write-async, write-read-async}
+use Rattle.master.specs.Transfer.{transaction-async}
 use Rattle.master.specs.Sequence.{joined}
-use Rattle.master.specs.Demand3.{Byte, Run, left-by, operations, NotEmpty, taken-by, taken-in, issued-by, issued-in, LevelsPossible, Premises, SameIf}
+use Rattle.master.specs.Demand3.{Byte, Run, left-by, operations, NotEmpty, taken-by, taken-in, issued-by}
+use Rattle.master.specs.Demand3.{issued-in, LevelsPossible, Premises, SameIf}
 use Rattle.master.proofs.Emits.{AllPossible}
 use Rattle.master.proofs.Demand3.{shifted, not-nil}
 
@@ -29,13 +32,25 @@ abbrev byte : (v : ℕ) → T (ltb v 256) → Byte
 byte v small = record { value = v; small = ltb→lt v 256 small }
 
 abbrev run : Mode → ℕ → Transfer Byte → List ℕ → Run
-run mode address x readings = record { mode = mode; address = address; arguments = x; limits = true; room = 100; readings = readings; buffer = 0 ∷ 0 ∷ 0 ∷ [] }
+run mode address x readings = record {
+  mode = mode;
+  address = address;
+  arguments = x;
+  limits = true;
+  room = 100;
+  readings = readings;
+  buffer = 0 ∷ 0 ∷ 0 ∷ [];
+}
 
 -- the levels of a log, place by place and as the premise has them
-levels-at : (before after : List Entry) (v i t : ℕ) → AllPossible i t (before ++ (Read RXFLR v ∷ after)) → level v + (t + taken-in before) ≤ i + issued-in before
+levels-at : (before after : List Entry) (v i t : ℕ)
+    → AllPossible i t (before ++ (Read RXFLR v ∷ after))
+    → level v + (t + taken-in before) ≤ i + issued-in before
 levels-at [] after v i t l = let f : level v + t ≤ i = l .0 tt in omega arith
-levels-at (Read r u ∷ before) after v i t l = rw (← shifted (eqb r DATA-CMD) t (taken-in before)) (levels-at before after v i (taken-by r t) (l .1))
-levels-at (Write r w ∷ before) after v i t l = rw (← shifted (eqb r DATA-CMD && cmd w) i (issued-in before)) (levels-at before after v (issued-by r w i) t l)
+levels-at (Read r u ∷ before) after v i t l =
+    rw (← shifted (eqb r DATA-CMD) t (taken-in before)) (levels-at before after v i (taken-by r t) (l .1))
+levels-at (Write r w ∷ before) after v i t l =
+    rw (← shifted (eqb r DATA-CMD && cmd w) i (issued-in before)) (levels-at before after v (issued-by r w i) t l)
 levels-at (Marked x ∷ before) after v i t l = levels-at before after v i t l
 
 levels-of : (log : List Entry) → AllPossible 0 0 log → LevelsPossible log
@@ -84,14 +99,28 @@ pub record Needed : Type 0 where
   pub levels : SameIf (λ left os. (left .answer ≡ Answered Accepted) × ((os ≢ []) × Each NotEmpty os)) → ⊥
 
 pub needed : Needed
-unfolding outcome turns rounds setup tx-fifo-capacity tx-fifo-full rx-fifo-len read-and-clear-abort-reason read-blocking-bytes read-blocking-internal write-blocking-bytes write-blocking-internal wait-stop-det queue-batch fetch-bytes
-    read-async-internal fill write-async-internal each-operation blocking-read blocking-write blocking-write-read blocking-transaction read-async write-async write-read-async transaction-async signs written-to joined
+unfolding outcome turns rounds setup tx-fifo-capacity tx-fifo-full rx-fifo-len read-and-clear-abort-reason
+    read-blocking-bytes read-blocking-internal write-blocking-bytes write-blocking-internal wait-stop-det
+    queue-batch fetch-bytes
+    read-async-internal fill write-async-internal each-operation blocking-read blocking-write blocking-write-read
+    blocking-transaction read-async write-async write-read-async transaction-async signs written-to joined
 needed = record {
-  met-async = record { succeeds = refl; at-least-one = not-nil _ _; none-empty = (tt, tt); levels = levels-of (left-by three-rounds .log) (omega arith) };
-  met-blocking = record { succeeds = refl; at-least-one = not-nil _ _; none-empty = (tt, (tt, tt)); levels = levels-of (left-by written-and-read .log) (omega arith) };
+  met-async = record {
+    succeeds = refl;
+    at-least-one = not-nil _ _;
+    none-empty = (tt, tt);
+    levels = levels-of (left-by three-rounds .log) (omega arith);
+  };
+  met-blocking = record {
+    succeeds = refl;
+    at-least-one = not-nil _ _;
+    none-empty = (tt, (tt, tt));
+    levels = levels-of (left-by written-and-read .log) (omega arith);
+  };
   succeeds = λ claim.
       let e : joined (operations (cut-short (byte 0x22 tt))) ≡ joined (operations (cut-short (byte 0x33 tt))) =
-      claim (cut-short (byte 0x22 tt)) (cut-short (byte 0x33 tt)) (not-nil _ _, ((tt, tt), levels-of (left-by (cut-short (byte 0x22 tt)) .log) (omega arith)))
+      claim (cut-short (byte 0x22 tt)) (cut-short (byte 0x33 tt))
+      (not-nil _ _, ((tt, tt), levels-of (left-by (cut-short (byte 0x22 tt)) .log) (omega arith)))
       (not-nil _ _, ((tt, tt), levels-of (left-by (cut-short (byte 0x33 tt)) .log) (omega arith))) .0 refl .1 in
       let q : _≡_ {A = ℕ} 0x22 0x33 = cc in omega arith;
   at-least-one = λ claim.

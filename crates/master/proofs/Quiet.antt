@@ -5,8 +5,10 @@ use mathlib.Core.Bool.{Bool, true, false}
 use mathlib.Core.List.{List}
 use lib.Dec.{eqb}
 use Rattle.regs.specs.Registers.{DATA-CMD}
-use Rattle.regs.specs.Program.{if_then_else_, when, turns, while, Turn, again, done, by-turn, rounds, loop, Poll, pending, ready, polled, wait-on, ok, err}
-use Rattle.master.specs.Driver.{Driver, Tried, try, while-turn, while-test, tx-fifo-capacity, tx-fifo-full, rx-fifo-len, read-and-clear-abort-reason}
+use Rattle.regs.specs.Program.{if_then_else_, when, turns, while, Turn, again, done, by-turn, rounds, loop, Poll}
+use Rattle.regs.specs.Program.{pending, ready, polled, wait-on, ok, err}
+use Rattle.master.specs.Driver.{Driver, Tried, try, while-turn, while-test, tx-fifo-capacity, tx-fifo-full}
+use Rattle.master.specs.Driver.{rx-fifo-len, read-and-clear-abort-reason}
 use Rattle.master.specs.Async.{stop-poll, wait-stop-det, space-come, space-poll}
 use Rattle.master.proofs.Emits.{Does, Emits}
 
@@ -32,20 +34,25 @@ module _ (n r : ℕ) (more : ℕ → Bool) (body : Driver (Unit {0})) (k : ℕ �
   quiet-turns zero = tt
   quiet-turns (suc left) = λ v _. rw e (go (quiet-turns left) v (more v))
     where
-      go : Emits (turns left n r more body k) i t due → (v : ℕ) (c : Bool) → Emits (if c then body n (λ _. turns left n r more body k) else k v) i t due
+      go : Emits (turns left n r more body k) i t due
+          → (v : ℕ) (c : Bool)
+          → Emits (if c then body n (λ _. turns left n r more body k) else k v) i t due
       go ih v true = q n _ i t due (λ _. ih)
       go ih v false = h v
 
 pub quiet-while : (r : ℕ) (more : ℕ → Bool) (body : Driver (Unit {0})) → eqb r DATA-CMD ≡ false → Quiet body → Quiet (while r more body)
 quiet-while r more body e q n k i t due h = quiet-turns n r more body k i t due e q h n
 
-module _ {X B : Type 0} (n : ℕ) (body : X → Driver (Turn X B)) (k : B → Does) (i t : ℕ) (due : List ℕ) (q : (x : X) → Quiet (body x)) (h : (b : B) → Emits (k b) i t due) where
+module _ {X B : Type 0} (n : ℕ) (body : X → Driver (Turn X B)) (k : B → Does) (i t : ℕ) (due : List ℕ)
+    (q : (x : X) → Quiet (body x)) (h : (b : B) → Emits (k b) i t due) where
   quiet-rounds : (left : ℕ) (x : X) → Emits (rounds left n body x k) i t due
   unfolding rounds
   quiet-rounds zero x = tt
   quiet-rounds (suc left) x = q x n _ i t due (turned (quiet-rounds left))
     where
-      turned : ((y : X) → Emits (rounds left n body y k) i t due) → (w : Turn X B) → Emits (by-turn w (λ y. rounds left n body y k) k) i t due
+      turned : ((y : X) → Emits (rounds left n body y k) i t due)
+          → (w : Turn X B)
+          → Emits (by-turn w (λ y. rounds left n body y k) k) i t due
       turned ih (again y) = ih y
       turned ih (done b) = h b
 
@@ -55,15 +62,22 @@ quiet-loop x body q n k i t due h = quiet-rounds n body k i t due q h n x
 pub quiet-while-test : (test : Driver Bool) (body : Driver (Unit {0})) → Quiet test → Quiet body → Quiet (while-test test body)
 quiet-while-test test body qt qb = quiet-loop tt _ (λ _ n k i t due h. qt n _ i t due (λ more. turn n k i t due h more))
   where
-    turn : (n : ℕ) (k : Turn (Unit {0}) (Unit {0}) → Does) (i t : ℕ) (due : List ℕ) → ((w : Turn (Unit {0}) (Unit {0})) → Emits (k w) i t due)
+    turn : (n : ℕ) (k : Turn (Unit {0}) (Unit {0}) → Does) (i t : ℕ) (due : List ℕ)
+        → ((w : Turn (Unit {0}) (Unit {0})) → Emits (k w) i t due)
         → (more : Bool) → Emits (while-turn body more n k) i t due
     turn n k i t due h true = qb n _ i t due (λ _. h (again tt))
     turn n k i t due h false = h (done tt)
 
-pub quiet-wait-on : {X B : Type 0} (x : X) (f : X → Driver (Poll X B)) (g : Driver (Unit {0})) → ((x : X) → Quiet (f x)) → Quiet g → Quiet (wait-on x f g)
+pub quiet-wait-on : {X B : Type 0} (x : X) (f : X → Driver (Poll X B)) (g : Driver (Unit {0}))
+    → ((x : X) → Quiet (f x))
+    → Quiet g
+    → Quiet (wait-on x f g)
 quiet-wait-on {X} {B} x f g qf qg = quiet-loop x _ (λ y n k i t due h. qf y n _ i t due (λ p. poll n k i t due h p))
   where
-    poll : (n : ℕ) (k : Turn X B → Does) (i t : ℕ) (due : List ℕ) → ((w : Turn X B) → Emits (k w) i t due) → (p : Poll X B) → Emits (polled g p n k) i t due
+    poll : (n : ℕ) (k : Turn X B → Does) (i t : ℕ) (due : List ℕ)
+        → ((w : Turn X B) → Emits (k w) i t due)
+        → (p : Poll X B)
+        → Emits (polled g p n k) i t due
     poll n k i t due h (pending y) = qg n _ i t due (λ _. h (again y))
     poll n k i t due h (ready b) = h (done b)
 

@@ -48,19 +48,22 @@ opens-as (Busy d) w = refl
 
 -- one word
 signs-of-word : (bus : Bus) (a w : ℕ) (ws : List ℕ)
-    → signs bus a (w ∷ ws) ≡ front bus a (direction-of w) (restart w) ++ (byte-sign (direction-of w) w ∷ (closing (stop w) ++ signs (left (stop w) (direction-of w)) a ws))
+    → signs bus a (w ∷ ws) ≡ front bus a (direction-of w) (restart w)
+    ++ (byte-sign (direction-of w) w ∷ (closing (stop w) ++ signs (left (stop w) (direction-of w)) a ws))
 unfolding signs
 signs-of-word bus a w ws = rw (opens-as bus w) (append-assoc (front bus a (direction-of w) (restart w)) _ _)
 
 signs-of-read : (bus : Bus) (a : ℕ) (restart stop : Bool) (ws : List ℕ)
-    → signs bus a (command-word 0 true stop restart ∷ ws) ≡ front bus a Reading restart ++ (read-slot ∷ (closing stop ++ signs (left stop Reading) a ws))
+    → signs bus a (command-word 0 true stop restart ∷ ws)
+    ≡ front bus a Reading restart ++ (read-slot ∷ (closing stop ++ signs (left stop Reading) a ws))
 signs-of-read bus a true true ws = signs-of-word bus a _ ws
 signs-of-read bus a true false ws = signs-of-word bus a _ ws
 signs-of-read bus a false true ws = signs-of-word bus a _ ws
 signs-of-read bus a false false ws = signs-of-word bus a _ ws
 
 signs-of-write : (bus : Bus) (a b : ℕ) (stop : Bool) (ws : List ℕ) → b < 256
-    → signs bus a (command-word b false stop false ∷ ws) ≡ front bus a Writing false ++ (written b ∷ (closing stop ++ signs (left stop Writing) a ws))
+    → signs bus a (command-word b false stop false ∷ ws)
+    ≡ front bus a Writing false ++ (written b ∷ (closing stop ++ signs (left stop Writing) a ws))
 signs-of-write bus a b true ws small =
     let w : ℕ = command-word b false true false in
     let r : w / 2 ^ 8 % 2 ≡ 0 = omega arith in
@@ -78,25 +81,41 @@ signs-of-write bus a b false ws small =
 
 -- one operation
 signs-of-writes : (bus : Bus) (a : ℕ) (stop : Bool) (b : ℕ) (bs : List ℕ) (ws : List ℕ) → Bytes (b ∷ bs)
-    → signs bus a (write-words stop (b ∷ bs) ++ ws) ≡ front bus a Writing false ++ (map written (b ∷ bs) ++ (closing stop ++ signs (left stop Writing) a ws))
+    → signs bus a (write-words stop (b ∷ bs) ++ ws) ≡ front bus a Writing false
+    ++ (map written (b ∷ bs) ++ (closing stop ++ signs (left stop Writing) a ws))
 unfolding write-words
 signs-of-writes bus a stop b [] ws small = rw (and-true, signs-of-write bus a b stop ws (small .0))
 signs-of-writes bus a stop b (c ∷ cs) ws small =
-    rw (and-false, signs-of-write bus a b false (write-words stop (c ∷ cs) ++ ws) (small .0), signs-of-writes (Busy Writing) a stop c cs ws (small .1))
+    rw (
+      and-false,
+      signs-of-write bus a b false (write-words stop (c ∷ cs) ++ ws) (small .0),
+      signs-of-writes (Busy Writing) a stop c cs ws (small .1),
+    )
 
 signs-of-reads : (bus : Bus) (a : ℕ) (restart stop : Bool) (n : ℕ) (ws : List ℕ)
-    → signs bus a (read-words restart stop (suc n) ++ ws) ≡ front bus a Reading restart ++ (replicate (suc n) read-slot ++ (closing stop ++ signs (left stop Reading) a ws))
+    → signs bus a (read-words restart stop (suc n) ++ ws)
+    ≡ front bus a Reading restart
+    ++ (replicate (suc n) read-slot ++ (closing stop ++ signs (left stop Reading) a ws))
 unfolding read-words
 signs-of-reads bus a restart stop zero ws = rw (and-true, signs-of-read bus a restart stop ws)
 signs-of-reads bus a restart stop (suc n) ws =
-    rw (eqb·suc-zero n, and-false, signs-of-read bus a restart false (read-words false stop (suc n) ++ ws), signs-of-reads (Busy Reading) a false stop n ws)
+    rw (
+      eqb·suc-zero n,
+      and-false,
+      signs-of-read bus a restart false (read-words false stop (suc n) ++ ws),
+      signs-of-reads (Busy Reading) a false stop n ws,
+    )
 
 -- a read's RESTART flag asks for nothing new: its direction is new anyway
 abbrev pub Harmless : Bool → Bus → Operation ℕ → Type 0
 Harmless restart bus o = (a : ℕ) → front bus a (direction o) restart ≡ front bus a (direction o) false
 
-signs-of-operation : (bus : Bus) (a : ℕ) (restart stop : Bool) (o : Operation ℕ) (ws : List ℕ) → NotEmpty o → OfBytes o → Harmless restart bus o
-    → signs bus a (words-of restart stop o ++ ws) ≡ front bus a (direction o) false ++ (payload o ++ (closing stop ++ signs (left stop (direction o)) a ws))
+signs-of-operation : (bus : Bus) (a : ℕ) (restart stop : Bool) (o : Operation ℕ) (ws : List ℕ)
+    → NotEmpty o
+    → OfBytes o
+    → Harmless restart bus o
+    → signs bus a (words-of restart stop o ++ ws) ≡ front bus a (direction o) false
+    ++ (payload o ++ (closing stop ++ signs (left stop (direction o)) a ws))
 signs-of-operation bus a restart stop (writes []) ws full bytes harmless = absurd full
 signs-of-operation bus a restart stop (writes (b ∷ bs)) ws full bytes harmless = signs-of-writes bus a stop b bs ws bytes
 signs-of-operation bus a restart stop (reads zero) ws full bytes harmless = absurd full
@@ -132,7 +151,8 @@ signs-of-all bus a restart o [] full bytes harmless =
     signs-of-operation bus a restart true o [] (full .0) (bytes .0) (harmless .0)
 signs-of-all bus a restart o (p ∷ os) full bytes harmless =
     signs-of-operation bus a restart false o (all-words restart (p ∷ os)) (full .0) (bytes .0) (harmless .0)
-    ∙ (ap (λ ss. front bus a (direction o) false ++ (payload o ++ ss)) (signs-of-all (Busy (direction o)) a restart p os (full .1) (bytes .1) (harmless .1))
+    ∙ (ap (λ ss. front bus a (direction o) false ++ (payload o ++ ss))
+    (signs-of-all (Busy (direction o)) a restart p os (full .1) (bytes .1) (harmless .1))
     ∙ sym (flow-joined bus a o (joined (p ∷ os))))
 
 pub harmless-unset : (bus : Bus) (os : List (Operation ℕ)) → AllHarmless false bus os
@@ -140,11 +160,16 @@ harmless-unset bus [] = tt
 harmless-unset bus (o ∷ os) = (λ a. refl, harmless-unset (Busy (direction o)) os)
 
 -- from an idle bus the words of operations make the sequence of the joined operations
-pub words-make-sequence : (a : ℕ) (restart : Bool) (os : List (Operation ℕ)) → os ≢ [] → Each NotEmpty os → Each OfBytes os → AllHarmless restart Idle os
+pub words-make-sequence : (a : ℕ) (restart : Bool) (os : List (Operation ℕ))
+    → os ≢ []
+    → Each NotEmpty os
+    → Each OfBytes os
+    → AllHarmless restart Idle os
     → signs Idle a (all-words restart os) ≡ sequence a (joined os)
 unfolding flow sequence-from joined
 words-make-sequence a restart [] some full bytes harmless = absurd (some refl)
-words-make-sequence a restart (o ∷ os) some full bytes harmless = signs-of-all Idle a restart o os full bytes harmless ∙ idle-flow (joined (o ∷ os))
+words-make-sequence a restart (o ∷ os) some full bytes harmless =
+    signs-of-all Idle a restart o os full bytes harmless ∙ idle-flow (joined (o ∷ os))
   where
     idle-flow : (qs : List (Operation ℕ)) → flow Idle a qs ≡ sequence a qs
     idle-flow [] = refl

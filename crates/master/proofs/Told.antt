@@ -13,13 +13,23 @@ use Rattle.master.specs.Operations.{Operation, writes, reads}
 use Rattle.master.specs.Sequence.{direction, sequence-from, sequence, told}
 
 told-bytes : (bs : List ℕ) (ss : List Sign)
-    → told (map written bs ++ ss) ≡ record { bytes = bs ++ told ss .bytes; slots = told ss .slots; operations = told ss .operations; address = told ss .address }
+    → told (map written bs ++ ss) ≡ record {
+      bytes = bs ++ told ss .bytes;
+      slots = told ss .slots;
+      operations = told ss .operations;
+      address = told ss .address;
+    }
 unfolding told
 told-bytes [] ss = refl
 told-bytes (b ∷ bs) ss = rw (told-bytes bs ss)
 
 told-slots : (n : ℕ) (ss : List Sign)
-    → told (replicate n read-slot ++ ss) ≡ record { bytes = told ss .bytes; slots = told ss .slots + n; operations = told ss .operations; address = told ss .address }
+    → told (replicate n read-slot ++ ss) ≡ record {
+      bytes = told ss .bytes;
+      slots = told ss .slots + n;
+      operations = told ss .operations;
+      address = told ss .address;
+    }
 unfolding told
 told-slots zero ss = rw add-zero
 told-slots (suc n) ss = rw (told-slots n ss, add-suc)

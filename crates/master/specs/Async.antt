@@ -7,7 +7,8 @@ use Rattle.regs.specs.declared.answers.Refusal.the-variants.{InvalidReadBufferL
 use Rattle.regs.specs.declared.answers.Answer.the-variants.{Refused}
 use Rattle.regs.specs.Registers.{DATA-CMD, INTR-MASK, RAW-INTR-STAT, RX-TL, TX-TL, CLR-STOP-DET}
 use Rattle.regs.specs.Fields.{command-word, dat, stop-det, set-m-rx-full, set-m-tx-empty, set-m-tx-abrt, set-m-stop-det}
-use Rattle.regs.specs.Program.{if_then_else_, _>>=_, _>>_, return, exit, get, put, modify, store, skip, when, ok, err, Turn, again, done, loop, Poll, pending, ready, wait-on}
+use Rattle.regs.specs.Program.{if_then_else_, _>>=_, _>>_, return, exit, get, put, modify, store, skip, when, ok}
+use Rattle.regs.specs.Program.{err, Turn, again, done, loop, Poll, pending, ready, wait-on}
 use Rattle.master.specs.Driver.{Driver, Tried, is-err, try, tx-fifo-capacity, tx-fifo-full, rx-fifo-len, read-and-clear-abort-reason}
 
 -- ---- fn wait_stop_det
@@ -17,7 +18,9 @@ abbrev pub both : Tried (Unit {0}) → Tried (Unit {0}) → Tried (Unit {0})
 both (ok _) b = b
 both (err reason) b = err reason
 
--- the closure that `wait_stop_det` polls
+-- the closure that `wait_stop_det` polls. All words are queued by now, but the
+-- controller may still be sending them, and an abort may come from one of those;
+-- after a first abort only the STOP that the controller then sends is waited for.
 abbrev pub stop-poll : Tried (Unit {0}) → Driver (Poll (Unit {0}) (Tried (Unit {0})))
 stop-poll had-abort = do
   abort ← read-and-clear-abort-reason
@@ -52,7 +55,10 @@ queue-batch len restart send-stop (suc batch) remaining-queue = do
   put DATA-CMD (command-word 0 true (last && send-stop) (restart && eqb remaining-queue (len - 1)))
   queue-batch len restart send-stop batch remaining-queue
 
--- the closure that is polled for the batch: `if let Err(abort_reason) = ..`, and from its start
+-- the closure that is polled for the batch: `if let Err(abort_reason) = ..`, and from its start. Either the transmit FIFO
+-- is full or all words are queued: in both cases only received bytes lead on. RX_TL is set to the batch, so that the
+-- interrupt comes with its last byte and not with each one. Nothing else reads the receive FIFO, so what RXFLR counted
+-- can be taken.
 abbrev pub batch-come : ℕ → ℕ → Tried (Unit {0}) → Poll (Unit {0}) (Tried ℕ)
 batch-come batch rxfifo (err reason) = ready (err reason)
 batch-come batch rxfifo (ok _) = if not (ltb rxfifo batch) then ready (ok rxfifo) else pending tt
@@ -108,7 +114,8 @@ abbrev pub is-empty : {A : Type 0} → List A → Bool
 is-empty [] = true
 is-empty (x ∷ xs) = false
 
--- how `for _ in 0..tx_fifo_space` ends: the bytes have ended, which leaves both loops (`break 'xmit Ok(())`), or the places, with these bytes left
+-- how `for _ in 0..tx_fifo_space` ends: the bytes have ended, which leaves both loops (`break 'xmit Ok(())`), or
+-- the places, with these bytes left
 pub data Filled : Type 0 where
   break-xmit : Filled
   full : List ℕ → Filled
@@ -138,7 +145,8 @@ abbrev pub go-on : List ℕ → Tried (Unit {0}) → Turn (List ℕ) (Tried (Uni
 go-on bytes (err reason) = done (err reason)
 go-on bytes (ok _) = again bytes
 
--- what follows the inner loop
+-- what follows the inner loop. TX_TL is 1, not 0: the interrupt comes while an entry is still
+-- to be sent, so that the FIFO is refilled before it has drained and the bus does not stall.
 abbrev pub wait-space : Filled → Driver (Turn (List ℕ) (Tried (Unit {0})))
 wait-space break-xmit = return (done (ok tt))
 wait-space (full bytes) = do

@@ -13,7 +13,9 @@ use Rattle.master.specs.Driver.{Driver, is-err, try, while-test, tx-fifo
 
 -- a read buffer is given by its length and by its offset in the one lent read buffer
 
--- `for (i, byte) in read.iter_mut().enumerate()`, from byte i on, with `left` bytes from there
+-- `for (i, byte) in read.iter_mut().enumerate()`, from byte i on, with `left` bytes
+-- from there. A byte to be read needs a read word in the transmit FIFO, which makes
+-- the controller clock the bus; the byte then comes into the receive FIFO.
 unfoldable pub read-blocking-bytes : ℕ → ℕ → Bool → Bool → ℕ → ℕ → Driver (Unit {0})
 read-blocking-bytes offset lastindex restart send-stop i zero = skip
 read-blocking-bytes offset lastindex restart send-stop i (suc left) = do
@@ -34,7 +36,10 @@ read-blocking-internal offset len restart send-stop = do
   when (eqb len 0) (exit (Refused InvalidReadBufferLength))
   read-blocking-bytes offset (len - 1) restart send-stop 0 len
 
--- `for (i, byte) in write.iter().enumerate()`, from byte i on
+-- `for (i, byte) in write.iter().enumerate()`, from byte i on. TX_EMPTY alone would say only that the FIFO is
+-- empty; with TX_EMPTY_CTRL set in CON it waits for the shift register too, so the byte has left, and if it was not
+-- acknowledged the abort shows in the next read. On an abort the controller sends STOP by itself and flushes both
+-- FIFOs: STOP is waited for then too, whatever the word asked for, so that the next transfer finds an idle bus.
 unfoldable pub write-blocking-bytes : ℕ → Bool → ℕ → List ℕ → Driver (Unit {0})
 write-blocking-bytes len send-stop i [] = skip
 write-blocking-bytes len send-stop i (byte ∷ bytes) = do

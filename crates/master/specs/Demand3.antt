@@ -1,4 +1,5 @@
--- Demand 3: two master transfers that succeed make the same bus sequence exactly if their addresses and their joined operations are the same.
+-- Demand 3: two master transfers that succeed make the same bus sequence exactly if their addresses and their
+-- joined operations are the same.
 -- The bus sequence (crates/bus/specs/Bus.antt) begins on an idle bus with restarts enabled.
 use Prim.Native.Nat.{ℕ, zero, suc, _+_, _≤_, _<_}
 use mathlib.Core.Path.{_≡_}
@@ -41,8 +42,8 @@ plain (write bytes) = write (values bytes)
 plain (write-read bytes len) = write-read (values bytes) len
 plain (transaction os) = transaction (map plain-operation os)
 
--- A call of a master transfer with what it is run on: any of the eight forms, any operations, any readings, any room in the log.
--- `limits` is what number 20's test says of the call's arguments (specs/Transfer.antt).
+-- A call of a master transfer with what it is run on: any of the eight forms, any operations, any readings,
+-- any room in the log. `limits` is what number 20's test says of the call's arguments (specs/Transfer.antt).
 pub record Run : Type 0 where
   pub mode : Mode
   pub address : ℕ
@@ -89,7 +90,9 @@ issued-in (Marked x ∷ log) = issued-in log
 
 -- wherever the log reads RXFLR, the level plus the reads of DATA_CMD before it is at most the number of read words written there before it
 abbrev pub LevelsPossible : List Entry → Type 0
-LevelsPossible log = (before after : List Entry) (v : ℕ) → log ≡ before ++ (Read RXFLR v ∷ after) → level v + taken-in before ≤ issued-in before
+LevelsPossible log = (before after : List Entry) (v : ℕ)
+    → log ≡ before ++ (Read RXFLR v ∷ after)
+    → level v + taken-in before ≤ issued-in before
 
 -- the premises, of what a transfer left and of its operations
 pub record Premises (left : Outcome (Unit {0}) Reply) (os : List (Operation ℕ)) : Type 0 where
@@ -101,7 +104,8 @@ pub record Premises (left : Outcome (Unit {0}) Reply) (os : List (Operation ℕ)
 -- under such premises two runs make the same sequence exactly if their addresses and their joined operations are the same
 abbrev pub SameIf : (Outcome (Unit {0}) Reply → List (Operation ℕ) → Type 0) → Type 0
 SameIf P = (r s : Run) → P (left-by r) (operations r) → P (left-by s) (operations s)
-    → (bus-sequence (left-by r .log) ≡ bus-sequence (left-by s .log)) ↔ ((r .address ≡ s .address) × (joined (operations r) ≡ joined (operations s)))
+    → (bus-sequence (left-by r .log) ≡ bus-sequence (left-by s .log))
+    ↔ ((r .address ≡ s .address) × (joined (operations r) ≡ joined (operations s)))
 
 -- the demand
 abbrev pub SameSequence : Type 0
@@ -109,9 +113,12 @@ SameSequence = SameIf Premises
 
 -- each sequence is the one that its own address and joined operations make alone
 abbrev pub SequenceOfRun : Type 0
-SequenceOfRun = (r : Run) → Premises (left-by r) (operations r) → bus-sequence (left-by r .log) ≡ sequence (r .address) (joined (operations r))
+SequenceOfRun = (r : Run)
+    → Premises (left-by r) (operations r)
+    → bus-sequence (left-by r .log) ≡ sequence (r .address) (joined (operations r))
 
 -- and it tells both
 abbrev pub ToldByRun : Type 0
 ToldByRun = (r : Run) → Premises (left-by r) (operations r)
-    → (told (bus-sequence (left-by r .log)) .address ≡ r .address) × (told (bus-sequence (left-by r .log)) .operations ≡ joined (operations r))
+    → (told (bus-sequence (left-by r .log)) .address ≡ r .address)
+    × (told (bus-sequence (left-by r .log)) .operations ≡ joined (operations r))

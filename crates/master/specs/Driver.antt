@@ -38,7 +38,7 @@ while-turn body false = return (done tt)
 abbrev pub while-test : Driver Bool → Driver (Unit {0}) → Driver (Unit {0})
 while-test test body = loop tt (λ _. test >>= while-turn body)
 
--- fn setup
+-- fn setup. The controller takes a new TAR only while it is disabled.
 unfoldable pub setup : ℕ → Driver (Unit {0})
 setup addr = do
   when (not (ltb addr 0x80)) (exit (Refused (AddressOutOfRange addr)))
@@ -56,7 +56,7 @@ tx-fifo-capacity = do
   when (ltb FIFO-SIZE (level txflr)) (exit (Refused (TxLevelOutOfRange (level txflr))))
   return (FIFO-SIZE - level txflr)
 
--- fn tx_fifo_full
+-- fn tx_fifo_full. A word written to a full transmit FIFO would be lost, so a place is waited for first.
 unfoldable pub tx-fifo-full : Driver Bool
 tx-fifo-full = do
   capacity ← tx-fifo-capacity
@@ -73,7 +73,9 @@ reason-of abort-reason =
     if no-acknowledge abort-reason then NoAcknowledge
     else (if arb-lost abort-reason then ArbitrationLoss else Other abort-reason)
 
--- fn read_and_clear_abort_reason
+-- fn read_and_clear_abort_reason. CLR_TX_ABRT clears on read: reading it clears the flag and the
+-- source with it, so the source is read first. What CLR_TX_ABRT itself reads as means nothing.
+-- Until it is read, the controller holds the transmit FIFO empty, and later words would be lost.
 unfoldable pub read-and-clear-abort-reason : Driver (Tried (Unit {0}))
 read-and-clear-abort-reason = do
   abort-reason ← get TX-ABRT-SOURCE

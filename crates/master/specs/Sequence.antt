@@ -38,7 +38,8 @@ sequence-from sign address (o ∷ os) = addressed sign address (direction o) ++ 
 abbrev pub sequence : ℕ → List (Operation ℕ) → List Sign
 sequence address os = sequence-from START address os
 
--- what a sequence tells: the bytes and slots before its next START, RESTART or STOP, the operations from its next address byte on, and the address
+-- what a sequence tells: the bytes and slots before its next START, RESTART
+-- or STOP, the operations from its next address byte on, and the address
 pub record Told : Type 0 where
   pub bytes : List ℕ
   pub slots : ℕ
@@ -63,5 +64,15 @@ told (START ∷ ss) = ending (told ss)
 told (RESTART ∷ ss) = ending (told ss)
 told (STOP ∷ ss) = ending (told ss)
 told (address-byte a ∷ ss) = starting a (told ss)
-told (written b ∷ ss) = record { bytes = b ∷ told ss .bytes; slots = told ss .slots; operations = told ss .operations; address = told ss .address }
-told (read-slot ∷ ss) = record { bytes = told ss .bytes; slots = suc (told ss .slots); operations = told ss .operations; address = told ss .address }
+told (written b ∷ ss) = record {
+  bytes = b ∷ told ss .bytes;
+  slots = told ss .slots;
+  operations = told ss .operations;
+  address = told ss .address;
+}
+told (read-slot ∷ ss) = record {
+  bytes = told ss .bytes;
+  slots = suc (told ss .slots);
+  operations = told ss .operations;
+  address = told ss .address;
+}

@@ -10,7 +10,8 @@ use Rattle.regs.specs.Program.{_>>=_, _>>_, return, exit, skip, when}
 use Rattle.master.specs.Driver.{Driver, setup}
 use Rattle.master.specs.Blocking.{read-blocking-internal, write-blocking-internal}
 use Rattle.master.specs.Async.{is-empty, read-async-internal, write-async-internal}
-use Rattle.master.specs.Operations.{Operation, writes, reads, Transfer, read, write, write-read, transaction, Mode, blocking, async, fits, lists, listed}
+use Rattle.master.specs.Operations.{Operation, writes, reads, Transfer, read, write, write-read, transaction}
+use Rattle.master.specs.Operations.{Mode, blocking, async, fits, lists, listed}
 
 -- `_blocking_internal`, `_async_internal`
 abbrev pub read-internal : Mode → ℕ → ℕ → Bool → Bool → Driver (Unit {0})
@@ -42,8 +43,9 @@ blocking-write-read address bytes len = do
   read-blocking-internal 0 len true true
   return Accepted
 
--- a transaction's loop over its operations, `for i in 0..operations.len()` where it blocks, `while let Some(op) = iterator.next()` where it does not:
--- an operation is the last where none is left after it, and a read starts in the lent buffer where the reads before it ended
+-- a transaction's loop over its operations, `for i in 0..operations.len()` where it blocks,
+-- `while let Some(op) = iterator.next()` where it does not: an operation is the last where
+-- none is left after it, and a read starts in the lent buffer where the reads before it ended
 unfoldable pub each-operation : Mode → ℕ → List (Operation ℕ) → Driver (Unit {0})
 each-operation mode offset [] = skip
 each-operation mode offset (reads len ∷ operations) = do

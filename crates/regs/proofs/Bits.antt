@@ -59,10 +59,12 @@ hole-is j n k =
 cleared : (j n k w : ℕ) → w < 2 ^ (j + n + k) → bitAnd w (hole j n k) ≡ w / 2 ^ (n + k) * 2 ^ n * 2 ^ k + w % 2 ^ k
 cleared j n k w hw =
     let up : w / 2 ^ k / 2 ^ n % 2 ^ j ≡ w / 2 ^ (n + k) =
-    ap (λ (z : ℕ). z % 2 ^ j) (shr-shr w k n ∙ ap (λ (z : ℕ). w / 2 ^ z) (add-comm k n)) ∙ shr-mod j (n + k) (subst (λ (z : ℕ). w < 2 ^ z) (add-assoc j n k) hw)
+    ap (λ (z : ℕ). z % 2 ^ j) (shr-shr w k n ∙ ap (λ (z : ℕ). w / 2 ^ z) (add-comm k n))
+    ∙ shr-mod j (n + k) (subst (λ (z : ℕ). w < 2 ^ z) (add-assoc j n k) hw)
     in
     ap (bitAnd w) (hole-is j n k) ∙ and-parts k w (2 ^ (j + n) - 2 ^ n) (2 ^ k - 1) (ones-lt k)
-    ∙ ap₂ (λ (y z : ℕ). y * 2 ^ k + z) (and-high (w / 2 ^ k) j n ∙ ap (λ (z : ℕ). z * 2 ^ n) up) (and-mask (w % 2 ^ k) k ∙ mod-eq-of-lt (mod-lt w (pow-pos k)))
+    ∙ ap₂ (λ (y z : ℕ). y * 2 ^ k + z) (and-high (w / 2 ^ k) j n ∙ ap (λ (z : ℕ). z * 2 ^ n) up)
+    (and-mask (w % 2 ^ k) k ∙ mod-eq-of-lt (mod-lt w (pow-pos k)))
 
 replaced : (j n k w x : ℕ) → w < 2 ^ (j + n + k) → x < 2 ^ n → bitOr (bitAnd w (hole j n k)) (x * 2 ^ k) ≡ set-field k n x w
 unfolding set-field
@@ -70,7 +72,9 @@ replaced j n k w x hw hx =
     let H = w / 2 ^ (n + k) in
     ap₂ bitOr (cleared j n k w hw) (sym (add-zero (x * 2 ^ k))) ∙ or-block k (H * 2 ^ n) x (w % 2 ^ k) 0 (mod-lt w (pow-pos k)) (pow-pos k)
     ∙ ap₂ (λ (y z : ℕ). y * 2 ^ k + z) (or-shifted H n x hx) (or-zero-r (w % 2 ^ k))
-    ∙ ap (λ (z : ℕ). z + w % 2 ^ k) (add-mul (H * 2 ^ n) x (2 ^ k) ∙ ap (λ (z : ℕ). z + x * 2 ^ k) (mul-assoc H (2 ^ n) (2 ^ k) ∙ ap (λ (z : ℕ). H * z) (sym (pow-add 2 n k))))
+    ∙ ap (λ (z : ℕ). z + w % 2 ^ k)
+    (add-mul (H * 2 ^ n) x (2 ^ k)
+    ∙ ap (λ (z : ℕ). z + x * 2 ^ k) (mul-assoc H (2 ^ n) (2 ^ k) ∙ ap (λ (z : ℕ). H * z) (sym (pow-add 2 n k))))
 
 -- as code has it at 32 bits: `(w & !(((1 << n) - 1) << k)) | (x << k)`
 pub field-replaced : (n k w x : ℕ) → n < 32 → n + k ≤ 32 → w < 2 ^ 32 → x < 2 ^ n
@@ -78,6 +82,8 @@ pub field-replaced : (n k w x : ℕ) → n < 32 → n + k ≤ 32 → w < 2 ^ 32 
 field-replaced n k w x hn hk hw hx =
     let j = 32 - (n + k) in
     let e : j + n + k ≡ 32 = omega arith in
-    ap₂ (λ (y z : ℕ). bitOr (bitAnd w ((2 ^ 32 - 1) - y)) z) (ap (λ (y : ℕ). (y - 1) * 2 ^ k % 2 ^ 32) (one-shl n hn) ∙ shl-exact n k 32 (ones-lt n) hk) (shl-exact n k 32 hx hk)
+    ap₂ (λ (y z : ℕ). bitOr (bitAnd w ((2 ^ 32 - 1) - y)) z)
+    (ap (λ (y : ℕ). (y - 1) * 2 ^ k % 2 ^ 32) (one-shl n hn) ∙ shl-exact n k 32 (ones-lt n) hk)
+    (shl-exact n k 32 hx hk)
     ∙ ap (λ (z : ℕ). bitOr (bitAnd w ((2 ^ z - 1) - (2 ^ n - 1) * 2 ^ k)) (x * 2 ^ k)) (sym e)
     ∙ replaced j n k w x (subst (λ (z : ℕ). w < 2 ^ z) (sym e) hw) hx

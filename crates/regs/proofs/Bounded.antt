@@ -5,7 +5,7 @@ use mathlib.Core.List.{List}
 use lib.ListN.{length}
 use Rattle.regs.specs.Program.{Program, ends}
 use Rattle.regs.specs.Bounds.{Bounded}
-use Rattle.regs.specs.Machine.{Machine}
+use Rattle.regs.specs.inner.Machine.{Machine}
 use Rattle.regs.specs.declared.answers.Answer.{Answer}
 use Rattle.regs.proofs.Refine.{Agree}
 use Rattle.regs.proofs.Enough.{enough-from}
@@ -17,6 +17,8 @@ pub bounded-by : (M : Machine) (p : Program (M .K) Answer Answer) (start : M .K 
 bounded-by M p start agrees =
     record {
       turns = λ room n h rs b z. enough-from M (start z) p b z (agrees z b) room n h rs;
-      full = λ log rs b z. full-only M (length log / 2) (start z) (p (suc (length log / 2)) ends) b b z (agrees z b (suc (length log / 2)) (suc (length log / 2)) (le-refl (suc (length log / 2))) .steps) rs;
-      dry = λ log rs b z. dry-only M (length log / 2) (start z) (p (suc (length log / 2)) ends) b b z (agrees z b (suc (length log / 2)) (suc (length log / 2)) (le-refl (suc (length log / 2))) .steps) rs;
+      full = λ log rs b z. full-only M (length log / 2) (start z) (p (suc (length log / 2)) ends) b b z
+          (agrees z b (suc (length log / 2)) (suc (length log / 2)) (le-refl (suc (length log / 2))) .steps) rs;
+      dry = λ log rs b z. dry-only M (length log / 2) (start z) (p (suc (length log / 2)) ends) b b z
+          (agrees z b (suc (length log / 2)) (suc (length log / 2)) (le-refl (suc (length log / 2))) .steps) rs;
     }

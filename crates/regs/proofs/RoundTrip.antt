@@ -27,10 +27,20 @@ either true b t l r = l tt
 either false b t l r = r t
 
 -- what the table finds by its offset is a byte
-found : (o : ℕ) (f : Register → Bool) → ((r : Register) → T (f r) → r .offset ≡ o) → (rs : List Register) → T (bytes rs) → T (any f rs) → o < 256
+found : (o : ℕ) (f : Register → Bool)
+    → ((r : Register) → T (f r) → r .offset ≡ o)
+    → (rs : List Register)
+    → T (bytes rs)
+    → T (any f rs)
+    → o < 256
 found o f is [] a h = absurd h
 found o f is (r ∷ rs) a h =
-    either (f r) (any f rs) h (λ t. omega (arith, is r t, ltb-true (r .offset) 256 (test-true _ (both-left (ltb (r .offset) 256) (bytes rs) a))))
+    either (f r) (any f rs) h
+    (λ t. omega (
+      arith,
+      is r t,
+      ltb-true (r .offset) 256 (test-true _ (both-left (ltb (r .offset) 256) (bytes rs) a)),
+    ))
     (λ t. found o f is rs (both-right (ltb (r .offset) 256) (bytes rs) a) t)
 
 read-byte : (r : ℕ) → T (legal-read r) → r < 256
@@ -38,7 +48,8 @@ read-byte o = found o (λ r. eqb (r .offset) o) (λ r. eqb→eq (r .offset) o) r
 
 write-byte : (r : ℕ) → T (legal-write r) → r < 256
 write-byte o =
-    found o (λ r. eqb (r .offset) o && can-write (r .direction)) (λ r t. eqb→eq (r .offset) o (both-left (eqb (r .offset) o) (can-write (r .direction)) t)) registers tt
+    found o (λ r. eqb (r .offset) o && can-write (r .direction))
+    (λ r t. eqb→eq (r .offset) o (both-left (eqb (r .offset) o) (can-write (r .direction)) t)) registers tt
 
 mark-byte : (x : ℕ) → T (legal-mark x) → x < 256
 mark-byte x h =
@@ -70,12 +81,22 @@ round-trip (Write r v ∷ es) h = rw (entry-write r v (write-byte r (h .0)), rou
 round-trip (Marked x ∷ es) h = rw (entry-mark x 0 (mark-byte x (h .0)), round-trip es (h .1))
 
 -- the log that a run left
-pub read-back : {S : Type 0} {o : Outcome S Reply} {before after : List ℕ} {r : Ran} → Leaves o before after r → Each Legal (o .log) → decode (take (r .entries * 2) after) ≡ o .log
+pub read-back : {S : Type 0} {o : Outcome S Reply} {before after : List ℕ} {r : Ran}
+    → Leaves o before after r
+    → Each Legal (o .log)
+    → decode (take (r .entries * 2) after) ≡ o .log
 read-back {o = o} {before = before} l h =
-    rw (l .entries, l .log, take-at (encode (o .log)) (drop (length (o .log) * 2) before) (length (o .log) * 2) (length-encode (o .log))) (round-trip (o .log) h)
+    rw (
+      l .entries,
+      l .log,
+      take-at (encode (o .log)) (drop (length (o .log) * 2) before) (length (o .log) * 2) (length-encode (o .log)),
+    ) (round-trip (o .log) h)
 
 -- the words from entry k on: the entry that the two words there stand for, and the rest; or nothing
-pub decode-next : (words : List ℕ) (k : ℕ) → k < length words / 2 → decode (drop (k * 2) words) ≡ entry (getD words (k * 2) 0) (getD words (k * 2 + 1) 0) ∷ decode (drop ((k + 1) * 2) words)
+pub decode-next : (words : List ℕ) (k : ℕ)
+    → k < length words / 2
+    → decode (drop (k * 2) words) ≡ entry (getD words (k * 2) 0) (getD words (k * 2 + 1) 0) ∷ decode
+    (drop ((k + 1) * 2) words)
 unfolding decode
 decode-next words k h =
     let p : suc (k * 2) ≡ k * 2 + 1 = omega arith in
@@ -92,7 +113,9 @@ pub decode-end : (words : List ℕ) (k : ℕ) → length words / 2 ≤ k → dec
 decode-end words k h = short (drop (k * 2) words) (omega (arith, length-drop (k * 2) words))
 
 -- so `entry_of` at the two words of entry k is what the log decodes to there
-pub decode-at : (words : List ℕ) (k : ℕ) (e : Entry) → k < length words / 2 → getD (decode words) k e ≡ entry (getD words (k * 2) 0) (getD words (k * 2 + 1) 0)
+pub decode-at : (words : List ℕ) (k : ℕ) (e : Entry)
+    → k < length words / 2
+    → getD (decode words) k e ≡ entry (getD words (k * 2) 0) (getD words (k * 2 + 1) 0)
 unfolding decode
 decode-at [] k e h = absurd (omega arith)
 decode-at (w ∷ []) k e h = absurd (omega arith)
@@ -103,13 +126,24 @@ decode-at (w ∷ v ∷ words) (suc k) e h =
     rw (p, q) (decode-at words k e (omega arith))
 
 -- and of the log that a run left, entry k of the outcome
-pub entry-back : {S : Type 0} {o : Outcome S Reply} {before after : List ℕ} {r : Ran} → Leaves o before after r → Each Legal (o .log) → (k : ℕ) (e : Entry) → k < r .entries
+pub entry-back : {S : Type 0} {o : Outcome S Reply} {before after : List ℕ} {r : Ran}
+    → Leaves o before after r
+    → Each Legal (o .log)
+    → (k : ℕ) (e : Entry)
+    → k < r .entries
     → entry (getD after (k * 2) 0) (getD after (k * 2 + 1) 0) ≡ getD (o .log) k e
 entry-back {o = o} {before = before} {after = after} {r = r} l h k e within =
     let n : length (encode (o .log)) ≡ r .entries * 2 = omega (arith, length-encode (o .log), l .entries) in
-    let t : take (r .entries * 2) after ≡ encode (o .log) = rw (l .log) (take-at (encode (o .log)) (drop (length (o .log) * 2) before) (r .entries * 2) n) in
+    let t : take (r .entries * 2) after ≡ encode (o .log) =
+    rw (l .log) (take-at (encode (o .log)) (drop (length (o .log) * 2) before) (r .entries * 2) n) in
     let long : length (take (r .entries * 2) after) ≡ r .entries * 2 = ap length t ∙ n in
-    let at : getD (decode (take (r .entries * 2) after)) k e ≡ entry (getD (take (r .entries * 2) after) (k * 2) 0) (getD (take (r .entries * 2) after) (k * 2 + 1) 0) =
+    let at : getD (decode (take (r .entries * 2) after)) k e
+    ≡ entry (getD (take (r .entries * 2) after) (k * 2) 0) (getD (take (r .entries * 2) after) (k * 2 + 1) 0) =
     decode-at (take (r .entries * 2) after) k e (omega arith)
     in
-    rw (← read-back l h, at, getD-take (r .entries * 2) after (k * 2) 0 (omega arith), getD-take (r .entries * 2) after (k * 2 + 1) 0 (omega arith))
+    rw (
+      ← read-back l h,
+      at,
+      getD-take (r .entries * 2) after (k * 2) 0 (omega arith),
+      getD-take (r .entries * 2) after (k * 2 + 1) 0 (omega arith),
+    )

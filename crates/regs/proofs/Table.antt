@@ -1,4 +1,5 @@
--- The rule of the table of registers, at every row by one test that antt computes: offsets are multiples of 4 and ascend, so no two are equal.
+-- The rule of the table of registers, at every row by one test that antt
+-- computes: offsets are multiples of 4 and ascend, so no two are equal.
 use mathlib.Core.Path.{_≡_, refl, subst, sym}
 use mathlib.Core.Bool.{Bool, true, false, _&&_}
 use mathlib.Core.List.{List, [], _∷_}

@@ -1,4 +1,4 @@
--- Document 01's number and detail of each answer.
+-- The number and detail of each answer (docs/MANUAL.md, "The numbers").
 use Prim.Native.Nat.{ℕ, _+_, _*_, _^_}
 use Rattle.regs.specs.declared.answers.AbortReason.{AbortReason}
 use Rattle.regs.specs.declared.answers.AbortReason.the-variants.{NoAcknowledge, ArbitrationLoss, TxNotEmpty, Other}
@@ -7,7 +7,13 @@ use Rattle.regs.specs.declared.answers.Command.the-variants.{GeneralCall
 use Rattle.regs.specs.declared.answers.ReadStatus.{ReadStatus}
 use Rattle.regs.specs.declared.answers.ReadStatus.the-variants.{Done, NeedMoreBytes, LeftoverBytes}
 use Rattle.regs.specs.declared.answers.Refusal.{Refusal}
-use Rattle.regs.specs.declared.answers.Refusal.the-variants.{FrequencyTooHigh, FrequencyZero, ClockOutOfRange, ClockTooFast, ClockTooSlow, AddressOutOfRange, InvalidReadBufferLength, InvalidWriteBufferLength, Abort, TxLevelOutOfRange, InvalidResponseBufferLength, PartialWrite, PartialGeneralCall, SlaveAddressZero, NoPlaceForPending, OverLimits}
+use Rattle.regs.specs.declared.answers.Refusal.the-variants.{FrequencyTooHigh, FrequencyZero}
+use Rattle.regs.specs.declared.answers.Refusal.the-variants.{ClockOutOfRange, ClockTooFast, ClockTooSlow}
+use Rattle.regs.specs.declared.answers.Refusal.the-variants.{AddressOutOfRange, InvalidReadBufferLength}
+use Rattle.regs.specs.declared.answers.Refusal.the-variants.{InvalidWriteBufferLength, Abort}
+use Rattle.regs.specs.declared.answers.Refusal.the-variants.{TxLevelOutOfRange, InvalidResponseBufferLength}
+use Rattle.regs.specs.declared.answers.Refusal.the-variants.{PartialWrite, PartialGeneralCall}
+use Rattle.regs.specs.declared.answers.Refusal.the-variants.{SlaveAddressZero, NoPlaceForPending, OverLimits}
 use Rattle.regs.specs.declared.answers.Answer.{Answer}
 use Rattle.regs.specs.declared.answers.Answer.the-variants.{Accepted, Heard, Responded, Refused}
 use Rattle.regs.specs.declared.answers.Reply.{Reply}

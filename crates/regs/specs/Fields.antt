@@ -1,4 +1,4 @@
--- The fields of the controller's words, in plain arithmetic (RP2040 datasheet, I2C chapter; document 01, "Registers").
+-- The fields of the controller's words, in plain arithmetic (RP2040 datasheet, I2C chapter).
 use Prim.Native.Nat.{ℕ, _+_, _*_, _/_, _%_, _^_}
 use mathlib.Core.Bool.{Bool, true, false, not}
 use lib.Dec.{eqb}
@@ -108,8 +108,8 @@ address-field a = a % 2 ^ 10
 abbrev pub set-ic-sda-tx-hold : ℕ → ℕ → ℕ
 set-ic-sda-tx-hold hold w = set-field 0 16 hold w
 
--- CON, with what `reset` of the slave sets, in the Rust's order: master mode off, slave disable off, TX_EMPTY_CTRL, RX_FIFO_FULL_HLD_CTRL,
--- the speed fast, and STOP_DET_IFADDRESSED where no general call is heard
+-- CON, with what `reset` of the slave sets, in the Rust's order: master mode off, slave disable off,
+-- TX_EMPTY_CTRL, RX_FIFO_FULL_HLD_CTRL, the speed fast, and STOP_DET_IFADDRESSED where no general call is heard
 abbrev pub con-slave : Bool → ℕ → ℕ
 con-slave general-call w =
     set-field 7 1 (b2n (not general-call))

@@ -5,4 +5,4 @@ pub mod Program
 pub mod Answers
 pub mod Log
 pub mod Bounds
-pub mod Machine
+pub mod inner

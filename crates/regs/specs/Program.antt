@@ -1,4 +1,5 @@
--- The language in which the drivers are written down: programs with `do`, the Rust's loops, and what a program leaves on a list of readings.
+-- The language in which the drivers are written down: programs with `do`, the Rust's loops, and what a program
+-- leaves on a list of readings.
 use Prim.Native.Nat.{ℕ, zero, suc}
 use mathlib.Core.List.{List, [], _∷_}
 use mathlib.Core.Bool.{Bool, true, false}
@@ -11,7 +12,8 @@ abbrev pub if_then_else_ : {A : Type 0} → Bool → A → A → A
 if_then_else_ true a b = a
 if_then_else_ false a b = b
 
--- What a driver with a state S does up to its answer, an A. `stores`, `asks` and `keeps` are no accesses: they are done with the access before them.
+-- What a driver with a state S does up to its answer, an A. `stores`, `asks`
+-- and `keeps` are no accesses: they are done with the access before them.
 pub data Behaviour (S A : Type 0) : Type 0 where
   ends : A → Behaviour S A
   reads : ℕ → (ℕ → Behaviour S A) → Behaviour S A
@@ -120,6 +122,8 @@ polled g (pending x) = λ n k. g n (λ _. marks PENDING (k (again x)))
 polled g (ready b) = return (done b)
 
 -- `wait_on(f, g)`: polls f until it is ready, with g after each poll that is not
+-- The Rust registers its waker before it polls, so that an interrupt that comes between the poll and the mask
+-- wakes it too; the handler masks all interrupts, so each turn that is not done unmasks those that it waits for.
 abbrev pub wait-on : {S A X B : Type 0} → X → (X → Program S A (Poll X B)) → Program S A (Unit {0}) → Program S A B
 wait-on x f g = loop x (λ y. f y >>= polled g)
 
@@ -136,8 +140,9 @@ just a b s = record { answer = a; log = []; buffer = b; state = s }
 abbrev pub logged : {S A : Type 0} → Entry → Outcome S A → Outcome S A
 logged e o = record { answer = o .answer; log = e ∷ o .log; buffer = o .buffer; state = o .state }
 
--- The outcome of a behaviour on a list of readings, with room for so many entries in the log, from a buffer and a state. An access or a mark with
--- no room left answers `full`, then a read with no reading left answers `dry`; `told` is what an answer of the driver becomes.
+-- The outcome of a behaviour on a list of readings, with room for so many entries in the
+-- log, from a buffer and a state. An access or a mark with no room left answers `full`, then
+-- a read with no reading left answers `dry`; `told` is what an answer of the driver becomes.
 unfoldable pub outcome : {S A R : Type 0} → (A → R) → R → R → Behaviour S A → ℕ → List ℕ → List ℕ → S → Outcome S R
 outcome told full dry (ends a) room rs b s = just (told a) b s
 outcome told full dry (reads r f) zero rs b s = just full b s

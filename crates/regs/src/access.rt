@@ -1,4 +1,5 @@
-// One access: which is next, performed against the readings and the log, what is done to the lent buffer with it, and its entry in the log.
+// One access: which is next, performed against the readings and the log,
+// what is done to the lent buffer with it, and its entry in the log.
 use super::answers::Answer;
 use super::answers::Reply;
 use super::fields::byte_of;
@@ -7,7 +8,8 @@ ghost use Prim.Native.Nat.{_/_, _<_};
 ghost use lib.Dec.{ltb};
 ghost use lib.ListN.{length};
 ghost use Rattle.regs.specs.Log.{entry};
-ghost use Rattle.regs.specs.Machine.{head-of, value-of, taken, at-full, performed, log-after, stored-in};
+ghost use Rattle.regs.specs.inner.Machine.{head-of, value-of, taken, at-full, performed, log-after};
+ghost use Rattle.regs.specs.inner.Machine.{stored-in};
 
 // What a machine does next: read a register, write it, make a mark, or nothing more.
 pub enum Next {
@@ -30,7 +32,8 @@ pub enum Entry {
     Marked(u8),
 }
 
-// An access was performed: the reading that it took, 0 where it takes none, and the readings used so far. Or the run stops.
+// An access was performed: the reading that it took, 0 where it
+// takes none, and the readings used so far. Or the run stops.
 pub enum Performed {
     Did(u32, usize),
     Stopped(Reply),
@@ -134,9 +137,11 @@ fn enter(log: &mut [u32], k: usize, n: Next, p: Performed)
     }
 }
 
-// Performs an access: 19 where the log is full, then 18 where a reading is wanted and none is left, else the entry is in the log.
+// Performs an access: 19 where the log is full, then 18 where a
+// reading is wanted and none is left, else the entry is in the log.
 pub fn perform(n: Next, readings: &[u32], used: usize, log: &mut [u32], entries: usize) -> Performed
-    ensures { λ r. ⌜ (r ≡ performed (now (readings .entry)) used entries (length (now (log .entry)) / 2) n) × (now (log .exit) ≡ log-after r (now (log .entry)) entries n) ⌝ }
+    ensures { λ r. ⌜ (r ≡ performed (now (readings .entry)) used entries (length (now (log .entry)) / 2) n)
+        × (now (log .exit) ≡ log-after r (now (log .entry)) entries n) ⌝ }
 {
     if has_room(log.len(), entries) {
         let p = take(n, readings, used);

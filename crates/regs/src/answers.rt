@@ -1,4 +1,5 @@
-// What a call answers, in the Rust's names. Document 01's number and detail of each answer are in specs/Answers.antt, and as code in `answer_numbers`.
+// What a call answers, in the Rust's names. The number and detail of each answer (docs/MANUAL.md)
+// are in specs/Answers.antt, and as code in `regs_numbers`.
 // Why the controller gave a transfer up.
 pub enum AbortReason {
     NoAcknowledge,
@@ -50,7 +51,8 @@ pub enum Answer {
     Refused(Refusal),
 }
 
-// What a run answers: what the driver did, or that a reading or a place in the log was wanted and there was none.
+// What a run answers: what the driver did, or that a reading
+// or a place in the log was wanted and there was none.
 pub enum Reply {
     Answered(Answer),
     OutOfReadings,

@@ -1,7 +1,12 @@
 // The fields of the controller's words, put together and taken apart by shifts and masks.
 ghost use mathlib.Core.Path.{_≡_};
 ghost use Prim.Native.Nat.{_+_, _<_, _≤_, _^_};
-ghost use Rattle.regs.specs.Fields.{b2n, bit, set-field, command-word, dat, cmd, stop, restart, first-data-byte, tx-empty, rd-req, tx-abrt, rx-done, stop-det, gen-call, restart-det, set-m-rx-full, set-m-tx-empty, set-m-tx-abrt, set-m-stop-det, rfne, level, no-acknowledge, arb-lost, tx-flush-cnt, address-field, set-ic-sda-tx-hold, con-slave};
+ghost use Rattle.regs.specs.Fields.{b2n, bit, set-field, command-word, dat, cmd, stop, restart};
+ghost use Rattle.regs.specs.Fields.{first-data-byte, tx-empty, rd-req, tx-abrt, rx-done, stop-det};
+ghost use Rattle.regs.specs.Fields.{gen-call, restart-det, set-m-rx-full, set-m-tx-empty};
+ghost use Rattle.regs.specs.Fields.{set-m-tx-abrt, set-m-stop-det, rfne, level, no-acknowledge};
+ghost use Rattle.regs.specs.Fields.{arb-lost, tx-flush-cnt, address-field, set-ic-sda-tx-hold};
+ghost use Rattle.regs.specs.Fields.{con-slave};
 
 // Bit k of a word: every test of a bit is this one.
 fn is_set(w: u32, k: u32) -> bool

@@ -1,9 +1,10 @@
-// The register library beneath master and slave: the controller's 25 registers, the fields of their words, and the access log.
+// The register library beneath master and slave: the controller's
+// 25 registers, the fields of their words, and the access log.
 ghost use mathlib.Core.Path.{_≡_};
 ghost use lib.ListN.{getD};
 ghost use Rattle.regs.specs.Registers.{offsets};
 
-pub mod answers; // what a call answers, with document 01's numbers
+pub mod answers; // what a call answers
 pub mod fields; // the words' fields, by shifts and masks
 pub mod access; // one access: performed, logged and read back
 

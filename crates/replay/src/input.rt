@@ -1,14 +1,14 @@
 // Moves bytes: from standard input to the reader, and its answers to standard output.
 use libc::STDIN_FILENO;
 use libc::STDOUT_FILENO;
-use reader::State;
-use whole_input::start;
+use replay_state::State;
+use replay_state::ends::start;
 ghost use mathlib.Core.Path.{_≡_};
 ghost use Prim.Native.Nat.{_+_, _≤_};
 ghost use lib.ListN.{length};
-ghost use Rattle.calls.specs.Runs.{MOST-TEXT, LOG-WORDS};
-ghost use Rattle.session.specs.Enter.{arrays, Lent, LONGEST-KEPT};
-ghost use Rattle.reader.specs.Rest.{whole, Sound};
+ghost use Rattle.replay_calls.specs.inner.Runs.{MOST-TEXT, LOG-WORDS};
+ghost use Rattle.replay_session.specs.inner.Enter.{arrays, Lent, LONGEST-KEPT};
+ghost use Rattle.replay_state.specs.inner.Rest.{whole, Sound};
 
 // The bytes of the chunk that were read and are not yet fed.
 struct Span {
@@ -29,7 +29,8 @@ fn unfed(chunk: &mut [u8], at: usize, end: usize) -> Span
     Span { at: 0, end: n }
 }
 
-// Reads to the end of the input, and writes answers on the way. A proved loop ends, so it counts its turns down from a number that no run uses up.
+// Reads to the end of the input, and writes answers on the way. A proved
+// loop ends, so it counts its turns down from a number that no run uses up.
 pub fn read_all(
     chunk: &mut [u8],
     text: &mut [u8],
@@ -41,8 +42,14 @@ pub fn read_all(
     log: &mut [u32],
     out: &mut [u8],
 ) -> State
-    requires { ⌜ (length (now text) ≡ LONGEST-KEPT) × Lent (arrays (now kinds) (now lengths) (now bytes) (now readings)) × (length (now buffer) ≡ 4096) × (length (now log) ≡ LOG-WORDS) × (MOST-TEXT + 13 ≤ length (now out)) ⌝ }
-    ensures { λ r. ⌜ Sound (whole r (now (text .exit)) (now (kinds .exit)) (now (lengths .exit)) (now (bytes .exit)) (now (readings .exit)) (now (buffer .exit)) (now (log .exit))) ⌝ }
+    requires { ⌜ (length (now text) ≡ LONGEST-KEPT)
+        × Lent (arrays (now kinds) (now lengths) (now bytes) (now readings))
+        × (length (now buffer) ≡ 4096)
+        × (length (now log) ≡ LOG-WORDS)
+        × (MOST-TEXT + 13 ≤ length (now out)) ⌝ }
+    ensures { λ r. ⌜ Sound
+        (whole r (now (text .exit)) (now (kinds .exit)) (now (lengths .exit)) (now (bytes .exit))
+        (now (readings .exit)) (now (buffer .exit)) (now (log .exit))) ⌝ }
 {
     let mut state = start();
     let mut at: usize = 0;
@@ -55,7 +62,7 @@ pub fn read_all(
         if end == 0 {
             return state;
         }
-        let f = frames::feed(
+        let f = replay_feed::feed(
             &chunk[from..end],
             state,
             text,

@@ -1,5 +1,6 @@
-// Replays calls: frames on standard input, answers on standard output. What is written is what Session says of the input, by the contracts of `frames::feed`
-// and `frames::finish` and the claim `every-split` over them; here bytes are only moved.
+// Replays calls: frames on standard input, answers on standard output. What is written is
+// what Session says of the input, by the contracts of `replay_feed::feed` and
+// `replay_feed::finish` and the claim `every-split` over them; here bytes are only moved.
 mod input; // standard input, read to its end
 
 use libc::STDOUT_FILENO;
@@ -25,7 +26,7 @@ fn main() {
         &mut log,
         &mut out,
     );
-    let made = frames::finish(
+    let made = replay_feed::finish(
         last,
         &text,
         &mut kinds,

@@ -11,18 +11,19 @@ use Rattle.regs.proofs.Tests.{by-test}
 use Rattle.regs.specs.Registers.{RX-TL, INTR-MASK}
 use Rattle.regs.specs.Fields.{set-field, dat, rd-req, stop-det, gen-call, restart-det, rfne, level}
 use Rattle.regs.specs.Program.{Behaviour, ends, writes, put, by-turn, polled, pending}
-use Rattle.regs.specs.Machine.{Machine, stored-in}
+use Rattle.regs.specs.inner.Machine.{Machine, stored-in}
 use Rattle.regs.specs.declared.answers.Answer.{Answer}
 use Rattle.regs.specs.declared.answers.Answer.the-variants.{Heard}
 use Rattle.regs.specs.declared.access.Next.the-variants as N
 use Rattle.regs.proofs.Refine.{Agree, ends-agree, reads-agree, writes-agree, marks-agree, stores-agree, asks-agree, keeps-agree, loop-agree}
-use Rattle.slave_state.specs.I2cSlave.{answer, is-some, with-pending, drain-places, listen-drain, listen-command, listen-poll, listen-mask, Listened, listen}
-use Rattle.slave_listen.specs.Machine.{Listener, listener, machine, settled, drain-from, after-level, is-next}
-use Rattle.slave_state.specs.declared.SlaveState.{SlaveState}
-use Rattle.slave_state.specs.declared.Pending.{Pending}
-use Rattle.slave_state.specs.declared.Pending.the-variants.{None, Byte}
+use Rattle.slave.specs.I2cSlave.{answer, is-some, with-pending, drain-places, listen-drain, listen-command}
+use Rattle.slave.specs.I2cSlave.{listen-poll, listen-mask, Listened, listen}
+use Rattle.slave_listen.specs.inner.Machine.{Listener, listener, machine, settled, drain-from, after-level, is-next}
+use Rattle.slave.specs.declared.SlaveState.{SlaveState}
+use Rattle.slave.specs.declared.Pending.{Pending}
+use Rattle.slave.specs.declared.Pending.the-variants.{None, Byte}
 use Rattle.slave_listen.specs.declared.ListenPoint.the-variants as L
-use Rattle.slave_state.proofs.Basics.{state, or-true, none-pending}
+use Rattle.slave.proofs.Basics.{state, or-true, none-pending}
 
 -- the code's mask is what the setters make of 0
 mask-is : N.Write INTR-MASK 0x1a24 ≡ N.Write INTR-MASK listen-mask
@@ -52,7 +53,8 @@ module _ (length : ℕ) where
   -- a poll that is not done
   pends : (m len : ℕ) (me : SlaveState) (b : List ℕ) (t : ℕ → Behaviour SlaveState Answer) (n : ℕ) → Holds len me → Back m t
       → Agree M m (listener me length (L.IntrMask len)) b b me (after n t (pending len))
-  pends m len me b t n holds back = writes-agree M m mask-is (λ m₁ l₁. marks-agree M m₁ refl (λ m₂ l₂. back m₂ (omega arith) len me b holds))
+  pends m len me b t n holds back =
+      writes-agree M m mask-is (λ m₁ l₁. marks-agree M m₁ refl (λ m₂ l₂. back m₂ (omega arith) len me b holds))
 
   -- what a poll says, with the FIFO drained
   settles : (m stat len : ℕ) (me : SlaveState) (b : List ℕ) (t : ℕ → Behaviour SlaveState Answer) (n : ℕ) → Holds len me → Back m t
@@ -67,7 +69,8 @@ module _ (length : ℕ) where
       (λ q. rw q (by-test (stop-det stat && ltb 0 len)
       (λ q. rw q (reads-agree M m refl (λ m₁ l₁ v. ends-agree M m₁ refl)))
       (λ q. rw q (by-test (rd-req stat)
-      (λ q. rw q (reads-agree M m refl (λ m₁ l₁ v. reads-agree M m₁ refl (λ m₂ l₂ v. reads-agree M m₂ refl (λ m₃ l₃ v. ends-agree M m₃ refl)))))
+      (λ q. rw q (reads-agree M m refl
+      (λ m₁ l₁ v. reads-agree M m₁ refl (λ m₂ l₂ v. reads-agree M m₂ refl (λ m₃ l₃ v. ends-agree M m₃ refl)))))
       (λ q. rw q (by-test (stop-det stat)
       (λ q. rw q (reads-agree M m refl (λ m₁ l₁ v. pends m₁ len me b t n holds (λ m₂ l₂. back m₂ (omega arith)))))
       (λ q. rw q (pends m len me b t n holds back))))))))))))
@@ -75,11 +78,16 @@ module _ (length : ℕ) where
   -- the drain is over
   sets-threshold : (m stat len : ℕ) (me : SlaveState) (b : List ℕ) (t : ℕ → Behaviour SlaveState Answer) (n : ℕ) → Holds len me → Back m t
       → Agree M m (listener me length (L.Watermark stat len)) b b me (writes RX-TL 11 (listen-command length stat len n (after n t)))
-  sets-threshold m stat len me b t n holds back = writes-agree M m refl (λ m₁ l₁. settles m₁ stat len me b t n holds (λ m₂ l₂. back m₂ (omega arith)))
+  sets-threshold m stat len me b t n holds back =
+      writes-agree M m refl (λ m₁ l₁. settles m₁ stat len me b t n holds (λ m₂ l₂. back m₂ (omega arith)))
 
   -- the drain, with `places` places from the offset on
-  drains : (places m stat offset : ℕ) (me : SlaveState) (b : List ℕ) (t : ℕ → Behaviour SlaveState Answer) (n : ℕ) → me .«pending_byte» ≡ None → length - offset ≡ places → Back m t
-      → Agree M m (listener me length (drain-from length stat offset)) b b me (drain-places places offset n (λ len. writes RX-TL 11 (listen-command length stat len n (after n t))))
+  drains : (places m stat offset : ℕ) (me : SlaveState) (b : List ℕ) (t : ℕ → Behaviour SlaveState Answer) (n : ℕ)
+      → me .«pending_byte» ≡ None
+      → length - offset ≡ places
+      → Back m t
+      → Agree M m (listener me length (drain-from length stat offset)) b b me
+      (drain-places places offset n (λ len. writes RX-TL 11 (listen-command length stat len n (after n t))))
   unfolding drain-places
   drains zero m stat offset me b t n none e back =
       rw (le-ltb offset length (omega arith)) (sets-threshold m stat offset me b t n (none-pending none) back)
@@ -90,13 +98,22 @@ module _ (length : ℕ) where
       by-test (rfne status)
       (λ q. rw q (reads-agree M m₁ refl (λ m₂ l₂ w.
       by-test (is-next offset w)
-      (λ q. rw q (asks-agree M m₂ (keeps-agree M m₂ (sets-threshold m₂ stat offset (with-pending (Byte (dat w)) me) b t n (λ _. omega arith) (λ m₃ l₃. back m₃ (omega arith))))))
-      (λ q. rw (q, more) (stores-agree M m₂ (drains places m₂ stat (offset + 1) me (set b offset (dat w)) t n none (omega arith) (λ m₃ l₃. back m₃ (omega arith))))))))
+      (λ q. rw q (asks-agree M m₂
+      (keeps-agree M m₂ (sets-threshold m₂ stat offset (with-pending (Byte (dat w)) me) b t n (λ _. omega arith)
+      (λ m₃ l₃. back m₃ (omega arith))))))
+      (λ q. rw (q, more) (stores-agree M m₂
+      (drains places m₂ stat (offset + 1) me (set b offset (dat w)) t n none (omega arith)
+      (λ m₃ l₃. back m₃ (omega arith))))))))
       (λ q. rw q (sets-threshold m₁ stat offset me b t n (none-pending none) (λ m₂ l₂. back m₂ (omega arith))))))
 
   -- after the level is read, with a byte pending and with none
-  levels : (p : Pending) (address : ℕ) (g : Bool) (m stat len v : ℕ) (b : List ℕ) (t : ℕ → Behaviour SlaveState Answer) (n : ℕ) → (is-some p ≡ true → len < length) → Back m t
-      → Agree M m (listener (with-pending (after-level length stat len p v .pending) (state p address g)) length (after-level length stat len p v .point)) (stored-in b (after-level length stat len p v .store)) b (state p address g)
+  levels : (p : Pending) (address : ℕ) (g : Bool) (m stat len v : ℕ) (b : List ℕ)
+      (t : ℕ → Behaviour SlaveState Answer) (n : ℕ)
+      → (is-some p ≡ true → len < length)
+      → Back m t
+      → Agree M m (listener (with-pending (after-level length stat len p v .pending) (state p address g)) length
+      (after-level length stat len p v .point))
+      (stored-in b (after-level length stat len p v .store)) b (state p address g)
       (listen-drain length len v n (λ len. listen-command length stat len n (after n t)))
   levels None address g m stat len v b t n holds back =
       asks-agree M m (by-test (ltb 0 (level v))
@@ -104,7 +121,8 @@ module _ (length : ℕ) where
       (λ q. rw q (settles m stat len _ b t n holds back)))
   levels (Byte c) address g m stat len v b t n holds back =
       asks-agree M m (rw (or-true (ltb 0 (level v)), lt-ltb len length (holds refl))
-      (asks-agree M m (keeps-agree M m (stores-agree M m (drains (length - (len + 1)) m stat (len + 1) _ (set b len c) t n refl refl back)))))
+      (asks-agree M m (keeps-agree M m
+      (stores-agree M m (drains (length - (len + 1)) m stat (len + 1) _ (set b len c) t n refl refl back)))))
 
   -- one poll
   polls : (m len : ℕ) (me : SlaveState) (b : List ℕ) (t : ℕ → Behaviour SlaveState Answer) (n : ℕ) → Holds len me → Back m t
@@ -114,7 +132,10 @@ module _ (length : ℕ) where
       reads-agree M m₁ refl (λ m₂ l₂ v.
       levels (me .«pending_byte») (me .address) (me .«general_call») m₂ stat len v b t n holds (λ m₃ l₃. back m₃ (omega arith))))
 
-  pub listens : (me : SlaveState) (b : List ℕ) (m n : ℕ) → m ≤ n → Holds 0 me → Agree M m (listener me length L.RxTl) b b me (listen length n (λ r. ends (answer Heard r)))
+  pub listens : (me : SlaveState) (b : List ℕ) (m n : ℕ)
+      → m ≤ n
+      → Holds 0 me
+      → Agree M m (listener me length L.RxTl) b b me (listen length n (λ r. ends (answer Heard r)))
   unfolding listen
   listens me b m n h holds =
       writes-agree M m refl (λ m₁ l₁.

@@ -1,2 +1,2 @@
 -- The machine of `listen`.
-pub mod Machine
+pub mod inner

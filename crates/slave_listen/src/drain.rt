@@ -3,9 +3,10 @@ use super::ListenPoint;
 use super::Listened;
 use regs::access::Store;
 use regs::fields;
-use slave_state::Pending;
+use slave::Pending;
 ghost use mathlib.Core.Path.{_≡_};
-ghost use Rattle.slave_listen.specs.Machine.{drain-from, after-level, after-status, is-next, after-data};
+ghost use Rattle.slave_listen.specs.inner.Machine.{drain-from, after-level, after-status, is-next};
+ghost use Rattle.slave_listen.specs.inner.Machine.{after-data};
 
 // The drain at an offset: a place, or the end of the buffer.
 fn drain_from(stat: u32, offset: u16, length: u16) -> ListenPoint
@@ -24,7 +25,8 @@ fn wide(offset: u16) -> usize
     offset as usize
 }
 
-// The pending byte is stored first. That it has a place is proved of the driver; the test keeps the sum in range.
+// The pending byte is stored first. That it has a place is
+// proved of the driver; the test keeps the sum in range.
 pub fn after_level(stat: u32, len: u16, pending: Pending, v: u32, length: u16) -> Listened
     ensures { λ r. ⌜ r ≡ after-level length stat len pending v ⌝ }
 {

@@ -1,4 +1,5 @@
-// `listen` as a machine of one access a step. The crate `slave_steps` joins it with the slave's other machines; apart, each is proved quickly.
+// `listen` as a machine of one access a step. The crate `slave_steps`
+// joins it with the slave's other machines; apart, each is proved quickly.
 pub mod drain; // the steps of `drain_fifo`
 
 use regs::access::Next;
@@ -7,12 +8,12 @@ use regs::answers::Answer;
 use regs::answers::Command;
 use regs::answers::Refusal;
 use regs::fields;
-use slave_state::Pending;
+use slave::Pending;
 ghost use mathlib.Core.Path.{_≡_};
 ghost use mathlib.Core.Bool.{_&&_};
 ghost use lib.Dec.{ltb};
 ghost use Rattle.regs.specs.Fields.{stop-det, rd-req, gen-call, restart-det};
-ghost use Rattle.slave_listen.specs.Machine.{next-listen, settled, stays, advance-listen};
+ghost use Rattle.slave_listen.specs.inner.Machine.{next-listen, settled, stays, advance-listen};
 
 // STOP_DET, RESTART_DET, GEN_CALL, RD_REQ and RX_FULL in INTR_MASK.
 pub const MASK: u32 = 1 << 9 | 1 << 12 | 1 << 11 | 1 << 5 | 1 << 2;

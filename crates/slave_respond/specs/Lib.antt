@@ -1,2 +1,2 @@
 -- The machine of a response.
-pub mod Machine
+pub mod inner

@@ -1,4 +1,5 @@
-// `respond_to_read` as a machine of one access a step, with what a response sends and leads to. The crate `slave_steps` joins it with the slave's other machines.
+// `respond_to_read` as a machine of one access a step, with what a response sends
+// and leads to. The crate `slave_steps` joins it with the slave's other machines.
 use regs::access::Next;
 use regs::answers::AbortReason;
 use regs::answers::Answer;
@@ -9,8 +10,12 @@ ghost use mathlib.Core.Bool.{_&&_};
 ghost use mathlib.Core.Path.{_≡_};
 ghost use lib.ListN.{getD};
 ghost use Rattle.regs.specs.Fields.{rd-req, tx-empty};
-ghost use Rattle.slave_state.specs.I2cSlave.{abort-reason};
-ghost use Rattle.slave_respond.specs.Machine.{count-of, byte-at, answer-of, next-respond, response, chunk-end, more-bytes, fed, after-reason, after-byte, advance-respond};
+ghost use Rattle.slave.specs.I2cSlave.{abort-reason};
+ghost use Rattle.slave_respond.specs.inner.Machine.{count-of, byte-at, answer-of, next-respond};
+ghost use Rattle.slave_respond.specs.inner.Machine.{response};
+ghost use Rattle.slave_respond.specs.inner.Machine.{chunk-end, more-bytes, fed, after-reason};
+ghost use Rattle.slave_respond.specs.inner.Machine.{after-byte};
+ghost use Rattle.slave_respond.specs.inner.Machine.{advance-respond};
 
 // RX_DONE, TX_EMPTY and TX_ABRT in INTR_MASK.
 pub const MASK: u32 = 1 << 7 | 1 << 4 | 1 << 6;
@@ -18,7 +23,8 @@ pub const MASK: u32 = 1 << 7 | 1 << 4 | 1 << 6;
 // The bytes that a poll sends at most: a FIFO of them.
 const CHUNK: u16 = 16;
 
-// What is sent: the bytes of `respond_to_read`, those of `respond_and_fill`, the fill byte of `respond_till_stop`, and that of `respond_and_fill`.
+// What is sent: the bytes of `respond_to_read`, those of `respond_and_fill`,
+// the fill byte of `respond_till_stop`, and that of `respond_and_fill`.
 pub enum Job {
     Respond,
     RespondThenFill(u8),

@@ -7,9 +7,9 @@ use Rattle.regs.specs.declared.answers.Answer.{Answer}
 use Rattle.regs.proofs.Refine.{Agree}
 use Rattle.regs.specs.Bounds.{Bounded}
 use Rattle.regs.proofs.Bounded.{bounded-by}
-use Rattle.slave_state.specs.I2cSlave.{Driver, reset-call, listen-call, respond-to-read-call, respond-till-stop-call, respond-and-fill-call}
-use Rattle.slave_state.specs.declared.SlaveState.{SlaveState}
-use Rattle.slave_steps.specs.Machine.{slave, machine}
+use Rattle.slave.specs.I2cSlave.{Driver, reset-call, listen-call, respond-to-read-call, respond-till-stop-call, respond-and-fill-call}
+use Rattle.slave.specs.declared.SlaveState.{SlaveState}
+use Rattle.slave_steps.specs.inner.Machine.{slave, machine}
 use Rattle.slave_steps.specs.declared.Point.{Point}
 use Rattle.slave_steps.proofs.Resets.{reset-agrees}
 use Rattle.slave_steps.proofs.Agrees.{listen-agrees, respond-agrees, respond-till-stop-agrees, respond-and-fill-agrees}

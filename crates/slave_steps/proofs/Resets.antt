@@ -6,11 +6,11 @@ use mathlib.Core.Path.{refl}
 use lib.Dec.{eqb}
 use Rattle.regs.proofs.Tests.{by-test}
 use Rattle.regs.specs.Program.{ends}
-use Rattle.regs.specs.Machine.{Machine}
+use Rattle.regs.specs.inner.Machine.{Machine}
 use Rattle.regs.proofs.Refine.{Agree, ends-agree, reads-agree, writes-agree, marks-agree, asks-agree, keeps-agree}
-use Rattle.slave_state.specs.I2cSlave.{reset, reset-call}
-use Rattle.slave_steps.specs.Machine.{machine, start-reset}
-use Rattle.slave_state.specs.declared.SlaveState.{SlaveState}
+use Rattle.slave.specs.I2cSlave.{reset, reset-call}
+use Rattle.slave_steps.specs.inner.Machine.{machine, start-reset}
+use Rattle.slave.specs.declared.SlaveState.{SlaveState}
 
 module _ (bytes : List ℕ) where
   abbrev M : Machine

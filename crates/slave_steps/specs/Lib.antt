@@ -1,2 +1,2 @@
 -- The slave's machine.
-pub mod Machine
+pub mod inner

@@ -6,14 +6,16 @@ use regs::access::Store;
 use regs::answers::Answer;
 use regs::answers::Refusal;
 use reset::ResetPoint;
+use slave::Pending;
+use slave::SlaveState;
 use slave_listen::ListenPoint;
 use slave_respond::Job;
 use slave_respond::RespondPoint;
 use slave_respond::Response;
-use slave_state::Pending;
-use slave_state::SlaveState;
 ghost use mathlib.Core.Path.{_≡_};
-ghost use Rattle.slave_steps.specs.Machine.{slave, start-reset, start-listen, listen-point, start-respond, start-fill, next-at, moved, advance-at};
+ghost use Rattle.slave_steps.specs.inner.Machine.{slave, start-reset, start-listen, listen-point};
+ghost use Rattle.slave_steps.specs.inner.Machine.{start-respond, start-fill, next-at, moved};
+ghost use Rattle.slave_steps.specs.inner.Machine.{advance-at};
 
 // Where a call stands: the access that is next.
 pub enum Point {

@@ -3,7 +3,7 @@ use regs::access::Next;
 use regs::answers::Answer;
 ghost use mathlib.Core.Path.{_≡_};
 ghost use Rattle.regs.specs.Fields.{b2n, address-field};
-ghost use Rattle.slave_steps.specs.Machine.{next-reset, advance-reset};
+ghost use Rattle.slave_steps.specs.inner.Machine.{next-reset, advance-reset};
 
 pub enum ResetPoint {
     Disable,

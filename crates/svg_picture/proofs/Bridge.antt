@@ -14,7 +14,7 @@ use Rattle.bus.specs.Bus.{Sign, START, RESTART, STOP, address-byte, written, re
 use Rattle.explain_bus.proofs.Signs.{sequence-held}
 use Rattle.explain_bus.proofs.Fits.{Fits, Fit, none, and, fit-sequence, kind-of, value-of}
 use Rattle.svg_text.specs.Picture.{width, column, row, lanes-text, sign-text, signs-text, last-row, svg-text}
-use Rattle.svg_text.specs.Drawn.{kind-text, kind-width, word-text, words-text, words-last, words-svg}
+use Rattle.svg_text.specs.inner.Drawn.{kind-text, kind-width, word-text, words-text, words-last, words-svg}
 
 width-is : (s : Sign) → Fits s → kind-width (sign-word s / 65536) ≡ width s
 unfolding kind-width
@@ -46,7 +46,8 @@ lasts-are : (x y : ℕ) {ss : List Sign} → Fit ss → words-last x y (sign-wor
 unfolding words-last last-row
 lasts-are x y none = refl
 lasts-are x y (and {s} {ss} h p) =
-    ap (λ (w : ℕ). words-last (column x w + w) (row x y w) (sign-words ss)) (width-is s h) ∙ lasts-are (column x (width s) + width s) (row x y (width s)) p
+    ap (λ (w : ℕ). words-last (column x w + w) (row x y w) (sign-words ss)) (width-is s h)
+    ∙ lasts-are (column x (width s) + width s) (row x y (width s)) p
 
 svg-is : (n : ℕ) {ss : List Sign} → Fit ss → words-svg (sign-words ss) n ≡ svg-text ss n
 unfolding words-svg svg-text
@@ -63,13 +64,22 @@ words-taken (suc k) [] = refl
 words-taken (suc k) (s ∷ ss) = ap (λ (l : List ℕ). sign-word s ∷ l) (words-taken k ss)
 
 -- the first 256 places, or all that there are
-first-held : (ss : List Sign) (after : List ℕ) (n : ℕ) → n ≡ length ss → take n after ≡ sign-words ss → (q : Bool) → ltb n 256 ≡ q → take (if q then n else 256) after ≡ take 256 (sign-words ss)
+first-held : (ss : List Sign) (after : List ℕ) (n : ℕ)
+    → n ≡ length ss
+    → take n after ≡ sign-words ss
+    → (q : Bool)
+    → ltb n 256 ≡ q
+    → take (if q then n else 256) after ≡ take 256 (sign-words ss)
 first-held ss after n e h true t = h ∙ sym (take-all 256 (sign-words ss) (omega (arith, e, length-map ss sign-word, ltb-true n 256 t)))
 first-held ss after n e h false t = sym (take-take 256 n after (ltb-false n 256 t)) ∙ ap (λ (l : List ℕ). take 256 l) h
 
-pub drawn-is : (l : List ℕ) (log : List Entry) {after : List ℕ} {n m : ℕ} → (n ≡ length (bus-sequence log)) × (after ≡ sets l 0 (sign-words (bus-sequence log))) → n ≤ length after → length after ≡ length l
+pub drawn-is : (l : List ℕ) (log : List Entry) {after : List ℕ} {n m : ℕ}
+    → (n ≡ length (bus-sequence log)) × (after ≡ sets l 0 (sign-words (bus-sequence log)))
+    → n ≤ length after
+    → length after ≡ length l
     → m ≡ (if ltb n 256 then n else 256) → words-svg (take m after) n ≡ svg-text (take 256 (bus-sequence log)) n
 drawn-is l log {after} {n} s h k e =
     let ss = bus-sequence log in
-    let f : take (if ltb n 256 then n else 256) after ≡ sign-words (take 256 ss) = first-held ss after n (s .0) (sequence-held l ss s h k) (ltb n 256) refl ∙ words-taken 256 ss in
+    let f : take (if ltb n 256 then n else 256) after ≡ sign-words (take 256 ss) =
+    first-held ss after n (s .0) (sequence-held l ss s h k) (ltb n 256) refl ∙ words-taken 256 ss in
     rw (e, f) (svg-is n (fit-take 256 (fit-sequence log)))

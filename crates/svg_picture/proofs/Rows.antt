@@ -6,9 +6,9 @@ use mathlib.Core.List.{List, _∷_, _++_, append-assoc, append-nil}
 use mathlib.Core.Path.{_≡_, refl, sym, ap, _∙_}
 use lib.ListN.{length, take, drop, getD, drop-of-length-le}
 use lib.Seq.{length-take-le, getD-take, drop-cons}
-use Rattle.frames_text.specs.Appended.{Appended}
+use Rattle.text_hex.specs.Appended.{Appended}
 use Rattle.svg_text.specs.Picture.{column, row}
-use Rattle.svg_text.specs.Drawn.{kind-width, word-text, words-text, words-last}
+use Rattle.svg_text.specs.inner.Drawn.{kind-width, word-text, words-text, words-last}
 
 next : (places : List ℕ) (n i : ℕ) → n ≤ length places → i < n → drop i (take n places) ≡ getD places i 0 ∷ drop (i + 1) (take n places)
 next places n i fits h =
@@ -31,10 +31,16 @@ pub rows-start : (places : List ℕ) (n : ℕ) → InRows places n 60 70 0
 rows-start places n = record { same = refl; narrow = omega arith; low = omega arith; within = omega arith }
 
 module _ {places : List ℕ} {n x y i : ℕ} (p : InRows places n x y i) (fits : n ≤ length places) where
-  pub rows-next : {w c y′ : ℕ} → i < n → w ≡ kind-width (getD places i 0 / 65536) → (c ≡ column x w) × (c + w ≤ 800) → (y′ ≡ row x y w) × (y′ ≤ y + 120) → InRows places n (c + w) y′ (i + 1)
+  pub rows-next : {w c y′ : ℕ}
+      → i < n
+      → w ≡ kind-width (getD places i 0 / 65536)
+      → (c ≡ column x w) × (c + w ≤ 800)
+      → (y′ ≡ row x y w) × (y′ ≤ y + 120)
+      → InRows places n (c + w) y′ (i + 1)
   unfolding words-last
   rows-next {w} {c} {y′} h e f g =
-      let s : words-last x y (drop i (take n places)) ≡ words-last (c + w) y′ (drop (i + 1) (take n places)) = rw (next places n i fits h, f .0, g .0, e) in
+      let s : words-last x y (drop i (take n places)) ≡ words-last (c + w) y′ (drop (i + 1) (take n places)) =
+      rw (next places n i fits h, f .0, g .0, e) in
       record {
         same = sym s ∙ p .same;
         narrow = f .1;
@@ -59,17 +65,33 @@ pub record InSigns (out₀ : List ℕ) (at : ℕ) (places : List ℕ) (n : ℕ) 
   pub within : i ≤ n
 
 pub signs-start : (out : List ℕ) (at : ℕ) (places : List ℕ) (n : ℕ) → InSigns out at places n out at 60 70 0
-signs-start out at places n = record { same = refl; room = omega arith; size = refl; narrow = omega arith; low = omega arith; within = omega arith }
+signs-start out at places n = record {
+  same = refl;
+  room = omega arith;
+  size = refl;
+  narrow = omega arith;
+  low = omega arith;
+  within = omega arith;
+}
 
 module _ {out₀ places out : List ℕ} {at n end x y i : ℕ} (p : InSigns out₀ at places n out end x y i) (fits : n ≤ length places) where
-  pub signs-next : {w c y′ end′ : ℕ} {out′ : List ℕ} → i < n → w ≡ kind-width (getD places i 0 / 65536) → (c ≡ column x w) × (c + w ≤ 800) → (y′ ≡ row x y w) × (y′ ≤ y + 120)
-      → Appended out end (word-text c y′ (getD places i 0)) 196 out′ end′ → length out′ ≡ length out → InSigns out₀ at places n out′ end′ (c + w) y′ (i + 1)
+  pub signs-next : {w c y′ end′ : ℕ} {out′ : List ℕ}
+      → i < n
+      → w ≡ kind-width (getD places i 0 / 65536)
+      → (c ≡ column x w) × (c + w ≤ 800)
+      → (y′ ≡ row x y w) × (y′ ≤ y + 120)
+      → Appended out end (word-text c y′ (getD places i 0)) 196 out′ end′
+      → length out′ ≡ length out
+      → InSigns out₀ at places n out′ end′ (c + w) y′ (i + 1)
   unfolding words-text
   signs-next {w} {c} {y′} h e f g a size =
       let rest = words-text (c + w) y′ (drop (i + 1) (take n places)) in
-      let s : words-text x y (drop i (take n places)) ≡ word-text c y′ (getD places i 0) ++ rest = rw (next places n i fits h, f .0, g .0, e) in
+      let s : words-text x y (drop i (take n places)) ≡ word-text c y′ (getD places i 0) ++ rest =
+      rw (next places n i fits h, f .0, g .0, e) in
       record {
-        same = ap (λ (t : List ℕ). t ++ rest) (a .same) ∙ (append-assoc (take end out) (word-text c y′ (getD places i 0)) rest ∙ (ap (λ (l : List ℕ). take end out ++ l) (sym s) ∙ p .same));
+        same = ap (λ (t : List ℕ). t ++ rest) (a .same)
+            ∙ (append-assoc (take end out) (word-text c y′ (getD places i 0)) rest
+            ∙ (ap (λ (l : List ℕ). take end out ++ l) (sym s) ∙ p .same));
         room = omega (arith, a .room, p .room);
         size = size ∙ p .size;
         narrow = f .1;
@@ -81,6 +103,7 @@ module _ {out₀ places out : List ℕ} {at n end x y i : ℕ} (p : InSigns out�
   unfolding words-text
   signs-end h =
       record {
-        same = sym (append-nil (take end out)) ∙ (ap (λ (l : List ℕ). take end out ++ words-text x y l) (sym (none places n i fits h)) ∙ p .same);
+        same = sym (append-nil (take end out))
+            ∙ (ap (λ (l : List ℕ). take end out ++ words-text x y l) (sym (none places n i fits h)) ∙ p .same);
         room = omega (arith, p .room, p .within);
       }

@@ -8,9 +8,9 @@ ghost use mathlib.Core.Path.{_≡_};
 ghost use lib.ListN.{length, take};
 ghost use lib.Dec.{ltb};
 ghost use Rattle.regs.specs.Program.{if_then_else_};
-ghost use Rattle.frames_text.specs.Appended.{Appended};
+ghost use Rattle.text_hex.specs.Appended.{Appended};
 ghost use Rattle.svg_text.specs.Picture.{column, row, note-text, picture};
-ghost use Rattle.svg_text.specs.Drawn.{kind-width, words-text, words-last, words-svg};
+ghost use Rattle.svg_text.specs.inner.Drawn.{kind-width, words-text, words-last, words-svg};
 
 // How many signs are drawn, how many entries a sequence may have, and the room for its text.
 pub const DRAWN: usize = 256;
@@ -68,7 +68,9 @@ fn last_row(places: &[u32], n: usize) -> u32
 
 fn push_signs(out: &mut [u8], at: usize, places: &[u32], n: usize) -> usize
     requires { ⌜ (at + 196 * n ≤ length (now out)) × (n ≤ length (now places)) × (n ≤ 256) ⌝ }
-    ensures { λ r. ⌜ Appended (now (out .entry)) at (words-text 60 70 (take n (now (places .entry)))) (196 * n) (now (out .exit)) r ⌝ }
+    ensures { λ r. ⌜ Appended (now (out .entry)) at
+        (words-text 60 70 (take n (now (places .entry))))
+        (196 * n) (now (out .exit)) r ⌝ }
 {
     let mut end = at;
     let mut x: u32 = 60;
@@ -103,7 +105,9 @@ fn push_note(out: &mut [u8], at: usize, y: u32, n: u32) -> usize
 
 fn push_svg(out: &mut [u8], places: &[u32], n: usize, entries: u32) -> usize
     requires { ⌜ (53000 ≤ length (now out)) × (n ≤ length (now places)) × (n ≤ 256) ⌝ }
-    ensures { λ r. ⌜ Appended (now (out .entry)) 0 (words-svg (take n (now (places .entry))) entries) 53000 (now (out .exit)) r ⌝ }
+    ensures { λ r. ⌜ Appended (now (out .entry)) 0
+        (words-svg (take n (now (places .entry))) entries)
+        53000 (now (out .exit)) r ⌝ }
 {
     let y = last_row(places, n);
     let a = push_head(out, 0, y + 130);
@@ -118,9 +122,12 @@ fn drawn(n: usize) -> usize
     if n < DRAWN { n } else { DRAWN }
 }
 
-// The picture of a log, in a buffer lent for it; its sequence is put into another. Says how long the text is: 0 where the log puts nothing on the bus.
+// The picture of a log, in a buffer lent for it; its sequence is put into
+// another. Says how long the text is: 0 where the log puts nothing on the bus.
 pub fn picture(log: &[u32], places: &mut [u32], out: &mut [u8]) -> usize
-    ensures { λ r. ⌜ Appended (now (out .entry)) 0 (picture (now (log .entry)) (length (now (places .entry))) (length (now (out .entry)))) (length (now (out .entry))) (now (out .exit)) r ⌝ }
+    ensures { λ r. ⌜ Appended (now (out .entry)) 0
+        (picture (now (log .entry)) (length (now (places .entry))) (length (now (out .entry))))
+        (length (now (out .entry))) (now (out .exit)) r ⌝ }
 {
     let n = bus::bus_sequence(log, places);
     if n > MOST {

@@ -2,4 +2,4 @@
 pub mod Ascii
 pub mod Texts
 pub mod Picture
-pub mod Drawn
+pub mod inner

@@ -6,8 +6,8 @@ use lib.ListN.{length, take}
 use Rattle.regs.specs.Program.{if_then_else_}
 use Rattle.regs.specs.Log.{decode}
 use Rattle.bus.specs.Bus.{Sign, START, RESTART, STOP, address-byte, written, read-slot, bus-sequence}
-use Rattle.frames_text.specs.Text.{hex2}
-use Rattle.decimal_text.specs.Decimal.{digits}
+use Rattle.text_hex.specs.Text.{hex2}
+use Rattle.text_tables.specs.Decimal.{digits}
 use Rattle.svg_text.specs.Ascii.{ascii}
 use Rattle.svg_text.specs.Texts.{style-text, conditions-text, bytes-text, legend-text}
 
@@ -19,7 +19,9 @@ number-text n = digits 6 n
 
 -- a shape of the head by its letter
 unfoldable pub shape-text : ℕ → ℕ → ℕ → List ℕ
-shape-text letter x y = ascii "<use href=\"#" ++ ((letter ∷ []) ++ (ascii "\" x=\"" ++ (number-text x ++ (ascii "\" y=\"" ++ (number-text y ++ ascii "\"/>\n")))))
+shape-text letter x y = ascii "<use href=\"#"
+    ++ ((letter ∷ [])
+    ++ (ascii "\" x=\"" ++ (number-text x ++ (ascii "\" y=\"" ++ (number-text y ++ ascii "\"/>\n")))))
 
 -- SDA during a bit: high for 1
 abbrev pub bit-text : ℕ → List ℕ
@@ -33,10 +35,13 @@ bits-text b =
 
 -- a byte's shape, its bits and its label
 unfoldable pub open-text : ℕ → ℕ → ℕ → List ℕ
-open-text letter x y = ascii "<g transform=\"translate(" ++ (number-text x ++ (ascii "," ++ (number-text y ++ (ascii ")\"><use href=\"#" ++ ((letter ∷ []) ++ ascii "\"/><path d=\"M0 65")))))
+open-text letter x y = ascii "<g transform=\"translate("
+    ++ (number-text x ++ (ascii ","
+    ++ (number-text y ++ (ascii ")\"><use href=\"#" ++ ((letter ∷ []) ++ ascii "\"/><path d=\"M0 65")))))
 
 unfoldable pub byte-text : ℕ → ℕ → ℕ → ℕ → List ℕ → List ℕ
-byte-text letter x y b label = open-text letter x y ++ (bits-text b ++ (ascii "\"/><text x=\"54\" y=\"96\">" ++ (label ++ ascii "</text></g>\n")))
+byte-text letter x y b label = open-text letter x y
+    ++ (bits-text b ++ (ascii "\"/><text x=\"54\" y=\"96\">" ++ (label ++ ascii "</text></g>\n")))
 
 -- `W` or `R`
 abbrev pub direction-text : ℕ → ℕ
@@ -76,7 +81,8 @@ lanes-text x y = if eqb x 60 then shape-text 108 0 y else []
 unfoldable pub signs-text : ℕ → ℕ → List Sign → List ℕ
 signs-text x y [] = []
 signs-text x y (s ∷ ss) =
-    (lanes-text (column x (width s)) (row x y (width s)) ++ sign-text (column x (width s)) (row x y (width s)) s) ++ signs-text (column x (width s) + width s) (row x y (width s)) ss
+    (lanes-text (column x (width s)) (row x y (width s)) ++ sign-text (column x (width s)) (row x y (width s)) s)
+    ++ signs-text (column x (width s) + width s) (row x y (width s)) ss
 
 -- the last row
 unfoldable pub last-row : ℕ → ℕ → List Sign → ℕ
@@ -86,19 +92,24 @@ last-row x y (s ∷ ss) = last-row (column x (width s) + width s) (row x y (widt
 -- ---- the whole picture
 
 unfoldable pub opening-text : ℕ → List ℕ
-opening-text height = ascii "<svg xmlns=\"http://www.w3.org/2000/svg\" width=\"840\" height=\"" ++ (number-text height ++ (ascii "\" viewBox=\"0 0 840 " ++ (number-text height ++ ascii "\" font-family=\"monospace\" font-size=\"14\" text-anchor=\"middle\">\n<title>I2C bus sequence</title>\n")))
+opening-text height = ascii "<svg xmlns=\"http://www.w3.org/2000/svg\" width=\"840\" height=\""
+    ++ (number-text height ++ (ascii "\" viewBox=\"0 0 840 "
+    ++ (number-text height ++ ascii
+    "\" font-family=\"monospace\" font-size=\"14\" text-anchor=\"middle\">\n<title>I2C bus sequence</title>\n")))
 
 unfoldable pub head-text : ℕ → List ℕ
 head-text height = opening-text height ++ (style-text ++ (conditions-text ++ (bytes-text ++ legend-text)))
 
 -- of a sequence of more than 256 signs the first are drawn, and the picture says so
 unfoldable pub note-text : ℕ → ℕ → List ℕ
-note-text y n = if ltb 256 n then ascii "<text class=\"n\" x=\"16\" y=\"" ++ (number-text y ++ (ascii "\">the first 256 of " ++ (number-text n ++ ascii " entries</text>\n"))) else []
+note-text y n = if ltb 256 n then ascii "<text class=\"n\" x=\"16\" y=\""
+    ++ (number-text y ++ (ascii "\">the first 256 of " ++ (number-text n ++ ascii " entries</text>\n"))) else []
 
 unfoldable pub svg-text : List Sign → ℕ → List ℕ
 svg-text ss n = head-text (last-row 60 70 ss + 130) ++ (signs-text 60 70 ss ++ (note-text (last-row 60 70 ss + 124) n ++ ascii "</svg>\n"))
 
--- the picture of a log that makes at most 32,768 entries, with room for them and for the text; nothing where the log puts nothing on the bus
+-- the picture of a log that makes at most 32,768 entries, with room for them and for the text; nothing where the
+-- log puts nothing on the bus
 unfoldable pub picture : List ℕ → ℕ → ℕ → List ℕ
 picture log places room =
     if ltb 32768 (length (bus-sequence (decode log))) then [] else

@@ -1,16 +1,18 @@
-// The head of a picture. Each function puts its text at `at` of a lent buffer and returns where the text ends.
-use decimal_text::push_digits;
-use frames_text::print::push;
+// The head of a picture. Each function puts its text at
+// `at` of a lent buffer and returns where the text ends.
+use text_hex::print::push;
+use text_tables::decimal::push_digits;
 ghost use Prim.Native.Nat.{_+_, _≤_};
 ghost use lib.ListN.{length};
-ghost use Rattle.frames_text.specs.Appended.{Appended};
+ghost use Rattle.text_hex.specs.Appended.{Appended};
 ghost use Rattle.svg_text.specs.Texts.{style-text, conditions-text, bytes-text, legend-text};
 ghost use Rattle.svg_text.specs.Picture.{number-text, opening-text, head-text};
 
 // A whole text.
 pub fn push_text(out: &mut [u8], at: usize, text: &[u8]) -> usize
     requires { ⌜ at + length (now text) ≤ length (now out) ⌝ }
-    ensures { λ r. ⌜ Appended (now (out .entry)) at (now (text .entry)) (length (now (text .entry))) (now (out .exit)) r ⌝ }
+    ensures { λ r. ⌜ Appended (now (out .entry)) at (now (text .entry)) (length (now (text .entry)))
+        (now (out .exit)) r ⌝ }
 {
     let mut end = at;
     let mut i: usize = 0;
@@ -59,11 +61,16 @@ fn push_conditions(out: &mut [u8], at: usize) -> usize
         out,
         at,
         b"<defs>\n\
-          <pattern id=\"h\" width=\"6\" height=\"6\" patternUnits=\"userSpaceOnUse\"><rect class=\"p\" width=\"6\" height=\"6\"/><path class=\"g\" d=\"M0 6l6 -6\"/></pattern>\n\
-          <g id=\"l\" class=\"n\"><text x=\"16\" y=\"26\">SCL</text><text x=\"16\" y=\"61\">SDA</text><text x=\"16\" y=\"96\">bus</text></g>\n\
-          <g id=\"S\"><path d=\"M0 10h18v20h6M0 45h12v20h12\"/><rect class=\"c\" y=\"78\" width=\"24\" height=\"26\"/><text x=\"12\" y=\"96\">S</text></g>\n\
-          <g id=\"R\"><path d=\"M0 30h3v-20h15v20h6M0 45h10v20h14\"/><rect class=\"c\" y=\"78\" width=\"24\" height=\"26\"/><text x=\"12\" y=\"96\">Sr</text></g>\n\
-          <g id=\"P\"><path d=\"M0 30h6v-20h18M0 65h14v-20h10\"/><rect class=\"c\" y=\"78\" width=\"24\" height=\"26\"/><text x=\"12\" y=\"96\">P</text></g>\n",
+          <pattern id=\"h\" width=\"6\" height=\"6\" patternUnits=\"userSpaceOnUse\">\
+          <rect class=\"p\" width=\"6\" height=\"6\"/><path class=\"g\" d=\"M0 6l6 -6\"/></pattern>\n\
+          <g id=\"l\" class=\"n\"><text x=\"16\" y=\"26\">SCL</text><text x=\"16\" y=\"61\">SDA</text>\
+          <text x=\"16\" y=\"96\">bus</text></g>\n\
+          <g id=\"S\"><path d=\"M0 10h18v20h6M0 45h12v20h12\"/>\
+          <rect class=\"c\" y=\"78\" width=\"24\" height=\"26\"/><text x=\"12\" y=\"96\">S</text></g>\n\
+          <g id=\"R\"><path d=\"M0 30h3v-20h15v20h6M0 45h10v20h14\"/>\
+          <rect class=\"c\" y=\"78\" width=\"24\" height=\"26\"/><text x=\"12\" y=\"96\">Sr</text></g>\n\
+          <g id=\"P\"><path d=\"M0 30h6v-20h18M0 65h14v-20h10\"/>\
+          <rect class=\"c\" y=\"78\" width=\"24\" height=\"26\"/><text x=\"12\" y=\"96\">P</text></g>\n",
     )
 }
 
@@ -74,10 +81,14 @@ fn push_bytes(out: &mut [u8], at: usize) -> usize
     push_text(
         out,
         at,
-        b"<path id=\"k\" d=\"M0 30h3v-20h6v20h6v-20h6v20h6v-20h6v20h6v-20h6v20h6v-20h6v20h6v-20h6v20h6v-20h6v20h6v-20h6v20h6v-20h6v20h3\"/>\n\
-          <g id=\"a\"><use href=\"#k\"/><rect class=\"h\" x=\"96\" y=\"45\" width=\"12\" height=\"20\"/><rect class=\"a\" y=\"78\" width=\"108\" height=\"26\"/></g>\n\
-          <g id=\"w\"><use href=\"#k\"/><rect class=\"h\" x=\"96\" y=\"45\" width=\"12\" height=\"20\"/><rect class=\"w\" y=\"78\" width=\"108\" height=\"26\"/></g>\n\
-          <g id=\"r\"><use href=\"#k\"/><rect class=\"h\" y=\"45\" width=\"108\" height=\"20\"/><rect class=\"r\" y=\"78\" width=\"108\" height=\"26\"/><text x=\"54\" y=\"96\">read</text></g>\n\
+        b"<path id=\"k\" d=\"M0 30h3v-20h6v20h6v-20h6v20h6v-20h6v20h6v-20h6v20h6v-20h6v20h6v-20h6v20h6v-20\
+        h6v20h6v-20h6v20h6v-20h6v20h3\"/>\n\
+          <g id=\"a\"><use href=\"#k\"/><rect class=\"h\" x=\"96\" y=\"45\" width=\"12\" height=\"20\"/>\
+          <rect class=\"a\" y=\"78\" width=\"108\" height=\"26\"/></g>\n\
+          <g id=\"w\"><use href=\"#k\"/><rect class=\"h\" x=\"96\" y=\"45\" width=\"12\" height=\"20\"/>\
+          <rect class=\"w\" y=\"78\" width=\"108\" height=\"26\"/></g>\n\
+          <g id=\"r\"><use href=\"#k\"/><rect class=\"h\" y=\"45\" width=\"108\" height=\"20\"/>\
+          <rect class=\"r\" y=\"78\" width=\"108\" height=\"26\"/><text x=\"54\" y=\"96\">read</text></g>\n\
           </defs>\n",
     )
 }
@@ -91,11 +102,16 @@ fn push_legend(out: &mut [u8], at: usize) -> usize
         at,
         b"<rect class=\"p\" width=\"840\" height=\"100%\"/>\n\
           <g class=\"n\"><text x=\"16\" y=\"26\" font-size=\"18\">I2C bus sequence</text>\n\
-          <rect class=\"c\" x=\"16\" y=\"40\" width=\"14\" height=\"14\"/><text x=\"36\" y=\"52\">S START, Sr RESTART, P STOP</text>\n\
-          <rect class=\"a\" x=\"290\" y=\"40\" width=\"14\" height=\"14\"/><text x=\"310\" y=\"52\">address</text>\n\
-          <rect class=\"w\" x=\"400\" y=\"40\" width=\"14\" height=\"14\"/><text x=\"420\" y=\"52\">written</text>\n\
-          <rect class=\"r\" x=\"510\" y=\"40\" width=\"14\" height=\"14\"/><text x=\"530\" y=\"52\">to be read</text>\n\
-          <rect class=\"h\" x=\"640\" y=\"40\" width=\"14\" height=\"14\"/><text x=\"660\" y=\"52\">not set by the words</text></g>\n",
+          <rect class=\"c\" x=\"16\" y=\"40\" width=\"14\" height=\"14\"/>\
+          <text x=\"36\" y=\"52\">S START, Sr RESTART, P STOP</text>\n\
+          <rect class=\"a\" x=\"290\" y=\"40\" width=\"14\" height=\"14\"/>\
+          <text x=\"310\" y=\"52\">address</text>\n\
+          <rect class=\"w\" x=\"400\" y=\"40\" width=\"14\" height=\"14\"/>\
+          <text x=\"420\" y=\"52\">written</text>\n\
+          <rect class=\"r\" x=\"510\" y=\"40\" width=\"14\" height=\"14\"/>\
+          <text x=\"530\" y=\"52\">to be read</text>\n\
+          <rect class=\"h\" x=\"640\" y=\"40\" width=\"14\" height=\"14\"/>\
+          <text x=\"660\" y=\"52\">not set by the words</text></g>\n",
     )
 }
 
@@ -115,7 +131,8 @@ fn push_opening(out: &mut [u8], at: usize, height: u32) -> usize
     push_text(
         out,
         d,
-        b"\" font-family=\"monospace\" font-size=\"14\" text-anchor=\"middle\">\n<title>I2C bus sequence</title>\n",
+        b"\" font-family=\"monospace\" font-size=\"14\" text-anchor=\"middle\">\n\
+          <title>I2C bus sequence</title>\n",
     )
 }
 

@@ -1,16 +1,18 @@
-// A sign at x and y of the picture. Each function puts its text at `at` of a lent buffer and returns where the text ends.
+// A sign at x and y of the picture. Each function puts its text
+// at `at` of a lent buffer and returns where the text ends.
 use super::head::push_number;
 use super::head::push_text;
-use frames_text::print::push;
-use frames_text::print::push2;
+use text_hex::print::push;
+use text_hex::print::push2;
 ghost use Prim.Native.Nat.{_+_, _/_, _%_, _≤_};
 ghost use mathlib.Core.Path.{_≡_};
 ghost use mathlib.Core.List.{[], _∷_, _++_};
 ghost use lib.ListN.{length};
-ghost use Rattle.frames_text.specs.Text.{hex2};
-ghost use Rattle.frames_text.specs.Appended.{Appended};
-ghost use Rattle.svg_text.specs.Picture.{shape-text, bit-text, bits-text, open-text, byte-text, direction-text, lanes-text};
-ghost use Rattle.svg_text.specs.Drawn.{kind-text, word-text};
+ghost use Rattle.text_hex.specs.Text.{hex2};
+ghost use Rattle.text_hex.specs.Appended.{Appended};
+ghost use Rattle.svg_text.specs.Picture.{shape-text, bit-text, bits-text, open-text, byte-text};
+ghost use Rattle.svg_text.specs.Picture.{direction-text, lanes-text};
+ghost use Rattle.svg_text.specs.inner.Drawn.{kind-text, word-text};
 
 // A shape of the head by its letter.
 fn push_shape(out: &mut [u8], at: usize, letter: u8, x: u32, y: u32) -> usize
@@ -74,7 +76,9 @@ fn letter(b: u32) -> u8
 
 fn push_address(out: &mut [u8], at: usize, x: u32, y: u32, b: u32) -> usize
     requires { ⌜ at + 157 ≤ length (now out) ⌝ }
-    ensures { λ r. ⌜ Appended (now (out .entry)) at (byte-text 97 x y b (hex2 (b / 2) ++ (32 ∷ direction-text b ∷ []))) 157 (now (out .exit)) r ⌝ }
+    ensures { λ r. ⌜ Appended (now (out .entry)) at
+        (byte-text 97 x y b (hex2 (b / 2) ++ (32 ∷ direction-text b ∷ [])))
+        157 (now (out .exit)) r ⌝ }
 {
     let c = push_open(out, at, b'a', x, y);
     let d = push_bits(out, c, b);

@@ -3,7 +3,7 @@ use master::FIFO_SIZE;
 use regs::fields::level_of;
 ghost use mathlib.Core.Path.{_≡_};
 ghost use Prim.Native.Nat.{_-_, min};
-ghost use Rattle.transfer.specs.Machine.{sum-of, places, capacity};
+ghost use Rattle.transfer.specs.inner.Machine.{sum-of, places, capacity};
 
 // One less, and 0 of 0.
 pub fn less(n: u16) -> u16

@@ -1,5 +1,6 @@
-// Where a master transfer stands: the access that is next, grouped by the Rust function that it lies in. In specs/ is the machine over these points, of one
-// register access a step; the crates `transfer_access` to `transfer_steps` are its code. Apart, each is proved quickly.
+// Where a master transfer stands: the access that is next, grouped by the Rust function that
+// it lies in. In specs/ is the machine over these points, of one register access a step; the
+// crates `transfer_access` to `transfer_steps` are its code. Apart, each is proved quickly.
 pub mod counts; // counts of bytes and places
 pub mod refusals; // ends by a refusal
 
@@ -17,7 +18,8 @@ pub enum Tried {
     Failed(AbortReason),
 }
 
-// What the rounds of an async read count: the bytes still to take, the words still to queue, and the words of this round.
+// What the rounds of an async read count: the bytes still to
+// take, the words still to queue, and the words of this round.
 pub struct Round {
     pub remaining: u16,
     pub queue: u16,
@@ -37,7 +39,8 @@ pub enum AbortPoint {
     Clear(u32),
 }
 
-// who called it: the byte that is read or written, the round with the level that was read, the byte that waits for a place, or what is known before the wait for STOP
+// who called it: the byte that is read or written, the round with the level that was
+// read, the byte that waits for a place, or what is known before the wait for STOP
 pub enum Caller {
     Read(u16),
     Write(u16),
@@ -116,8 +119,9 @@ pub enum Step {
     Done,
 }
 
-// A transfer: its point, the operation under way (where it starts in its buffer, its length, and whether STOP rides on its last word), the number of
-// operations begun, and where the next read and the next write start.
+// A transfer: its point, the operation under way (where it starts in its
+// buffer, its length, and whether STOP rides on its last word), the number
+// of operations begun, and where the next read and the next write start.
 pub struct Transfer {
     pub point: Point,
     pub mode: Mode,

@@ -6,7 +6,7 @@ use regs::access::Store;
 use transfer::Point;
 use transfer::Transfer;
 ghost use mathlib.Core.Path.{_≡_};
-ghost use Rattle.transfer.specs.Machine.{next-of, store-of};
+ghost use Rattle.transfer.specs.inner.Machine.{next-of, store-of};
 
 // The access that is next, or the answer. `bytes` are the lent write buffer.
 pub fn next_access(t: Transfer, bytes: &[u8]) -> Next

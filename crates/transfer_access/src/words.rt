@@ -15,7 +15,11 @@ use transfer::counts::difference;
 use transfer::counts::less;
 use transfer::counts::sum;
 ghost use mathlib.Core.Path.{_≡_};
-ghost use Rattle.transfer.specs.Machine.{byte-at, read-word, write-word, queue-word, fill-word, next-setup, next-abort, next-read, next-write, next-round, next-fill, next-wait, next-stop, store-read, store-round};
+ghost use Rattle.transfer.specs.inner.Machine.{byte-at, read-word, write-word, queue-word, fill-word};
+ghost use Rattle.transfer.specs.inner.Machine.{next-setup};
+ghost use Rattle.transfer.specs.inner.Machine.{next-abort, next-read, next-write, next-round, next-fill};
+ghost use Rattle.transfer.specs.inner.Machine.{next-wait};
+ghost use Rattle.transfer.specs.inner.Machine.{next-stop, store-read, store-round};
 
 fn byte_of(bytes: &[u8], at: usize, i: u16) -> u8
     ensures { λ r. ⌜ r ≡ byte-at (now (bytes .entry)) at i ⌝ }
@@ -58,7 +62,7 @@ pub fn word_of_queue(queue: u16, len: u16, send_stop: bool, restart: bool) -> u3
 }
 
 // An async write's word for byte i.
-fn word_of_fill(byte: u8, i: u16, len: u16, send_stop: bool) -> u32
+pub fn word_of_fill(byte: u8, i: u16, len: u16, send_stop: bool) -> u32
     ensures { λ r. ⌜ r ≡ fill-word byte i len «send_stop» ⌝ }
 {
     word_of(byte, false, (i as u32 + 1 == len as u32) & send_stop, false)

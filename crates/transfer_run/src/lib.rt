@@ -2,15 +2,13 @@
 
 use regs::access::Performed;
 use regs::access::Ran;
-use transfer::FillPoint;
-use transfer::Point;
 use transfer::Transfer;
 ghost use mathlib.Core.Path.{_≡_};
 ghost use Prim.Native.Nat.{_/_, _≤_};
 ghost use lib.ListN.{length};
-ghost use Rattle.regs.specs.Machine.{final, ran};
-ghost use Rattle.transfer.specs.Machine.{machine};
-ghost use Rattle.transfer_run.specs.Steps.{Steps};
+ghost use Rattle.regs.specs.inner.Machine.{final, ran};
+ghost use Rattle.transfer.specs.inner.Machine.{machine};
+ghost use Rattle.transfer_run.specs.inner.Steps.{Steps};
 
 // Accesses were made, so many readings are used and so many entries in the log; or the run ends.
 pub enum Stepped {
@@ -31,13 +29,15 @@ fn step(
     buffer: &mut [u8],
 ) -> Stepped
     requires { ⌜ entries ≤ length (now log) / 2 ⌝ }
-    ensures { λ r. ⌜ Steps (now (kinds .entry)) (now (lengths .entry)) (now (bytes .entry)) (now (readings .entry)) (now (log .entry)) (now (buffer .entry)) (now (log .exit)) (now (buffer .exit)) t used entries r ⌝ }
+    ensures { λ r. ⌜ Steps (now (kinds .entry)) (now (lengths .entry)) (now (bytes .entry))
+        (now (readings .entry)) (now (log .entry)) (now (buffer .entry)) (now (log .exit))
+        (now (buffer .exit)) t used entries r ⌝ }
 {
-    let a = transfer_ahead::ahead_from(t, bytes, readings, used, log, entries, buffer);
+    let a = transfer_fast::ahead_from(t, bytes, readings, used, log, entries, buffer);
     let u = a.used;
     let k = a.entries;
-    let p = a.point;
-    let s = transfer_steps::at_point(t, p);
+    let to = a.step;
+    let s = transfer_steps::moved(t, to, kinds, lengths);
     let n = transfer_access::next_access(s, bytes);
     match regs::access::perform(n, readings, u, log, k) {
         Performed::Stopped(r) => Stepped::Stopped(Ran {
@@ -52,49 +52,7 @@ fn step(
     }
 }
 
-// Whether the next access is a word of a queued write.
-fn is_filling(t: Transfer) -> bool {
-    let p = t.point;
-    match p {
-        Point::WriteAsync(f) => match f {
-            FillPoint::Fill(_, _) => true,
-            FillPoint::Free(_) => false,
-            FillPoint::Full(_) => false,
-        },
-        Point::Setup(_) => false,
-        Point::Abort(_, _) => false,
-        Point::ReadBlocking(_) => false,
-        Point::WriteBlocking(_) => false,
-        Point::ReadAsync(_) => false,
-        Point::Wait(_) => false,
-        Point::Stop(_) => false,
-        Point::Finished(_) => false,
-    }
-}
-
-// Whether a queued write has no byte left: after its last word it does not wait for a free place.
-fn has_ended(t: Transfer) -> bool {
-    let p = t.point;
-    match p {
-        Point::Abort(_, caller) => match caller {
-            transfer::Caller::Space(_) => false,
-            transfer::Caller::Read(_) => true,
-            transfer::Caller::Write(_) => true,
-            transfer::Caller::Batch(_, _) => true,
-            transfer::Caller::Stop(_) => true,
-        },
-        Point::WriteAsync(_) => false,
-        Point::Setup(_) => true,
-        Point::ReadBlocking(_) => true,
-        Point::WriteBlocking(_) => true,
-        Point::ReadAsync(_) => true,
-        Point::Wait(_) => true,
-        Point::Stop(_) => true,
-        Point::Finished(_) => true,
-    }
-}
-
-// The steps from a transfer to its end. A queued write goes by rounds, and in each by the free places of the FIFO; both loops are left when its bytes end.
+// The steps from a transfer to its end.
 pub fn drive(
     from: Transfer,
     kinds: &[u8],
@@ -104,38 +62,32 @@ pub fn drive(
     log: &mut [u32],
     buffer: &mut [u8],
 ) -> Ran
-    ensures { λ r. ⌜ final (r .reply) (r .entries) (r .used) (now (log .exit)) (now (buffer .exit)) tt ≡ ran (machine (now (kinds .entry)) (now (lengths .entry)) (now (bytes .entry))) (now (readings .entry)) (length (now (log .entry)) / 2) from 0 0 (now (log .entry)) (now (buffer .entry)) ⌝ }
+    ensures { λ r. ⌜ final (r .reply) (r .entries) (r .used) (now (log .exit)) (now (buffer .exit)) tt
+        ≡ ran
+        (machine (now (kinds .entry)) (now (lengths .entry)) (now (bytes .entry)))
+        (now (readings .entry)) (length (now (log .entry)) / 2) from 0 0 (now (log .entry))
+        (now (buffer .entry)) ⌝ }
 {
     let mut t = from;
     let mut entries: usize = 0;
     let mut used: usize = 0;
     loop {
-        'xmit: loop {
-            loop {
-                match step(
-                    t,
-                    kinds,
-                    lengths,
-                    bytes,
-                    readings,
-                    used,
-                    log,
-                    entries,
-                    buffer,
-                ) {
-                    Stepped::Stopped(r) => return r,
-                    Stepped::On(next, u, k) => {
-                        t = next;
-                        used = u;
-                        entries = k;
-                    }
-                }
-                if has_ended(t) {
-                    break 'xmit;
-                }
-                if !is_filling(t) {
-                    break;
-                }
+        match step(
+            t,
+            kinds,
+            lengths,
+            bytes,
+            readings,
+            used,
+            log,
+            entries,
+            buffer,
+        ) {
+            Stepped::Stopped(r) => return r,
+            Stepped::On(next, u, k) => {
+                t = next;
+                used = u;
+                entries = k;
             }
         }
     }

@@ -1,4 +1,5 @@
-// A transfer from its first access to its end, one access a step: `start`, then `advance` until `next_access` of `transfer_access` tells the answer.
+// A transfer from its first access to its end, one access a step: `start`,
+// then `advance` until `next_access` of `transfer_access` tells the answer.
 use regs::answers::Answer;
 use regs::answers::Refusal;
 use transfer::FillPoint;
@@ -12,11 +13,13 @@ use transfer::Step;
 use transfer::Transfer;
 use transfer::WritePoint;
 use transfer::counts::sum;
-use transfer_moves::step_of;
+use transfer_after::step_of;
 ghost use mathlib.Core.Path.{_≡_};
 ghost use lib.ListN.{getD};
-ghost use Rattle.transfer.specs.Points.{with-point};
-ghost use Rattle.transfer.specs.Machine.{write-point, read-point, opened-write, opened-read, opened, begun, moved-to, advance-of, tested-point, first-point, started};
+ghost use Rattle.transfer.specs.inner.Points.{with-point};
+ghost use Rattle.transfer.specs.inner.Machine.{write-point, read-point, opened-write, opened-read, opened};
+ghost use Rattle.transfer.specs.inner.Machine.{begun};
+ghost use Rattle.transfer.specs.inner.Machine.{moved-to, advance-of, tested-point, first-point, started};
 
 fn kind_at(kinds: &[u8], k: usize) -> u8
     ensures { λ r. ⌜ r ≡ getD (now (kinds .entry)) k 0 ⌝ }
@@ -109,7 +112,7 @@ fn open(t: Transfer, n: usize, kind: u8, len: u16, last: bool) -> Transfer
     }
 }
 
-pub fn at_point(t: Transfer, p: Point) -> Transfer
+fn at_point(t: Transfer, p: Point) -> Transfer
     ensures { λ r. ⌜ r ≡ with-point t p ⌝ }
 {
     let mode = t.mode;
@@ -141,7 +144,8 @@ fn begin(t: Transfer, kinds: &[u8], lengths: &[u16]) -> Transfer
     }
 }
 
-fn moved(t: Transfer, s: Step, kinds: &[u8], lengths: &[u16]) -> Transfer
+// The point, or the next operation.
+pub fn moved(t: Transfer, s: Step, kinds: &[u8], lengths: &[u16]) -> Transfer
     ensures { λ r. ⌜ r ≡ moved-to (now (kinds .entry)) (now (lengths .entry)) t s ⌝ }
 {
     match s {
@@ -170,7 +174,8 @@ fn tested(address: u16) -> Point
     }
 }
 
-// The first access, or the refusal of the address. An async transfer of no operations makes no access at any address.
+// The first access, or the refusal of the address. An async
+// transfer of no operations makes no access at any address.
 fn first_of(mode: Mode, address: u16, none: bool) -> Point
     ensures { λ r. ⌜ r ≡ first-point mode address none ⌝ }
 {
@@ -184,7 +189,8 @@ fn first_of(mode: Mode, address: u16, none: bool) -> Point
     }
 }
 
-// A transfer before its first access, of operations within the limits. `restart`: a read's first word carries the RESTART flag.
+// A transfer before its first access, of operations within the
+// limits. `restart`: a read's first word carries the RESTART flag.
 pub fn start(mode: Mode, restart: bool, address: u16, kinds: &[u8]) -> Transfer
     ensures { λ r. ⌜ r ≡ started mode restart address (now (kinds .entry)) ⌝ }
 {

@@ -1,4 +1,6 @@
--- `answer_frames::frame_in` meets its contract.
+-- `frame_in`: the test `line.len() < 2` decides the first branch of `frame-of`; past it the two bytes that
+-- `number` reads are in the line. The variant that `number` gives selects the branch of `of-kind`, and
+-- `of_kind`'s contract closes the case `Is`.
 use Rattle.answer_frames.specs.Frames.{frame-of}
 use mathlib.Core.Path.{sym, _∙_}
 use borrow.Author.Tests.{le-ltb, lt-ltb}
@@ -24,11 +26,22 @@ of-kind-requires c κs = search needs
 
 returns-2 : tie.Need-returns-2
 unfolding frame-of
-returns-2 c = simp (le-ltb _ _ (c .before .before .before .if1 .left), sym (c .before .before .number .ensures .same) ∙ c .enum-told .given .1)
+returns-2 c =
+    let at-number = c .before .before in
+    let at-if1 = at-number .before in
+    simp (le-ltb _ _ (at-if1 .if1 .left), sym (at-number .number .ensures .same) ∙ c .enum-told .given .1)
 
 returns-3 : tie.Need-returns-3
 unfolding frame-of
-returns-3 c = simp (le-ltb _ _ (c .before .before .before .before .before .if1 .left), sym (c .before .before .before .before .number .ensures .same) ∙ c .before .before .kind .given .1, c .of-kind .ensures)
+returns-3 c =
+    let at-kind = c .before .before in
+    let at-number = at-kind .before .before in
+    let at-if1 = at-number .before in
+    simp (
+      le-ltb _ _ (at-if1 .if1 .left),
+      sym (at-number .number .ensures .same) ∙ at-kind .kind .given .1,
+      c .of-kind .ensures,
+    )
 
 pub frame-in-spec : {M : Type 1} → statement M
 frame-in-spec =

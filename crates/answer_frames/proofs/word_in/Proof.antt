@@ -1,4 +1,6 @@
--- `answer_frames::word_in` meets its contract.
+-- `word_in`: the length 12 that is required puts the bytes 2 to 3 and 4 to 11 that `number` reads inside the
+-- line. The variants that the two calls give select the case of `word-of`; with both numbers it is `word`'s
+-- contract.
 use mathlib.Core.Path.{sym, _∙_}
 use borrow.Author.Needs.{needs}
 use Rattle.answer_frames.proofs.word_in.Statement.{statement}
@@ -26,13 +28,31 @@ word-requires : tie.Need-word-requires
 word-requires c κs = search needs
 
 returns : tie.Need-returns
-returns c = simp (sym (c .before .before .number .ensures .same) ∙ c .enum-told .given .1)
+returns c =
+    let at-number = c .before .before in
+    simp (sym (at-number .number .ensures .same) ∙ c .enum-told .given .1)
 
 returns-2 : tie.Need-returns-2
-returns-2 c = simp (sym (c .before .before .before .before .before .before .number .ensures .same) ∙ c .before .before .before .before .byte .given .1, sym (c .before .before .number2 .ensures .same) ∙ c .enum-told2 .given .1)
+returns-2 c =
+    let at-number2 = c .before .before in
+    let at-byte = at-number2 .before .before in
+    let at-number = at-byte .before .before in
+    simp (
+      sym (at-number .number .ensures .same) ∙ at-byte .byte .given .1,
+      sym (at-number2 .number2 .ensures .same) ∙ c .enum-told2 .given .1,
+    )
 
 returns-3 : tie.Need-returns-3
-returns-3 c = simp (sym (c .before .before .before .before .before .before .before .before .number .ensures .same) ∙ c .before .before .before .before .before .before .byte .given .1, sym (c .before .before .before .before .number2 .ensures .same) ∙ c .before .before .w .given .1, c .word .ensures)
+returns-3 c =
+    let at-w = c .before .before in
+    let at-number2 = at-w .before .before in
+    let at-byte = at-number2 .before .before in
+    let at-number = at-byte .before .before in
+    simp (
+      sym (at-number .number .ensures .same) ∙ at-byte .byte .given .1,
+      sym (at-number2 .number2 .ensures .same) ∙ at-w .w .given .1,
+      c .word .ensures,
+    )
 
 pub word-in-spec : {M : Type 1} → statement M
 word-in-spec =

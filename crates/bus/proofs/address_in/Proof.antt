@@ -1,4 +1,6 @@
--- `bus::address_in` meets its contract.
+-- `address_in`: the loop's invariant is that the first value written to TAR from entry k on is that of the
+-- whole log. `first-here` ends it at a write, `first-later` passes an entry that writes none, `first-none`
+-- gives 0 at the end (proofs/Sequence.antt); `entries - k` decreases.
 use Rattle.bus.proofs.Sequence.{first, first-here, first-later, first-none}
 use Rattle.regs.specs.Fields.{address-field}
 use Rattle.regs.specs.Registers.{TAR}
@@ -29,7 +31,18 @@ address-of-requires : tie.Need-address-of-requires Inv-loop μ-loop
 address-of-requires c κs = search needs
 
 returns : tie.Need-returns Inv-loop μ-loop
-returns c = let h : c .before .before .before .before .before .before .loop .k < length (c .before .before .before .before .before .before .before .before .args .log .now) / 2 = omega (arith, c .before .before .before .before .before .before .loop .inv .0, c .before .before .before .before .before .loop-test .taken) in c .address-of .ensures ∙ ap address-field (sym (first-here TAR (c .before .before .before .before .before .before .before .before .args .log .now) (c .before .before .before .before .before .before .loop .k) h (c .before .before .before .before .written-at .ensures) (c .before .before .a .given .1)) ∙ c .before .before .before .before .before .before .loop .inv .2)
+returns c =
+    let at-a = c .before .before in
+    let at-written-at = at-a .before .before in
+    let at-loop-test = at-written-at .before in
+    let at-loop = at-loop-test .before in
+    let at-start = at-loop .before .before in
+    let h : at-loop .loop .k < length (at-start .args .log .now) / 2 =
+    omega (arith, at-loop .loop .inv .0, at-loop-test .loop-test .taken) in
+    c .address-of .ensures
+    ∙ ap address-field (sym (first-here TAR (at-start .args .log .now) (at-loop .loop .k) h
+    (at-written-at .written-at .ensures) (at-a .a .given .1))
+    ∙ at-loop .loop .inv .2)
 
 enum-told : tie.Need-enum-told Inv-loop μ-loop
 enum-told c = search needs
@@ -41,10 +54,27 @@ loop-less : tie.Need-loop-less Inv-loop μ-loop
 loop-less c = search needs
 
 loop-again : tie.Need-loop-again Inv-loop μ-loop
-loop-again c = let h : c .before .before .before .before .loop .k < length (c .before .before .before .before .before .before .args .log .now) / 2 = omega (arith, c .before .before .before .before .loop .inv .0, c .before .before .before .loop-test .taken) in (c .before .before .before .before .loop .inv .0, search needs, sym (first-later TAR (c .before .before .before .before .before .before .args .log .now) (c .before .before .before .before .loop .k) h (c .before .before .written-at .ensures) (c .enum-told .given .1)) ∙ c .before .before .before .before .loop .inv .2)
+loop-again c =
+    let at-written-at = c .before .before in
+    let at-loop-test = at-written-at .before in
+    let at-loop = at-loop-test .before in
+    let at-start = at-loop .before .before in
+    let h : at-loop .loop .k < length (at-start .args .log .now) / 2 =
+    omega (arith, at-loop .loop .inv .0, at-loop-test .loop-test .taken) in (
+      at-loop .loop .inv .0,
+      search needs,
+      sym (first-later TAR (at-start .args .log .now) (at-loop .loop .k) h
+          (at-written-at .written-at .ensures) (c .enum-told .given .1))
+          ∙ at-loop .loop .inv .2,
+    )
 
 returns-2 : tie.Need-returns-2 Inv-loop μ-loop
-returns-2 c = let h : length (c .before .before .before .args .log .now) / 2 ≤ c .before .loop .k = omega (arith, c .before .loop .inv .0, c .loop-test .left) in ap address-field (sym (first-none TAR (c .before .before .before .args .log .now) (c .before .loop .k) h) ∙ c .before .loop .inv .2)
+returns-2 c =
+    let at-start = c .before .before .before in
+    let h : length (at-start .args .log .now) / 2 ≤ c .before .loop .k =
+    omega (arith, c .before .loop .inv .0, c .loop-test .left) in
+    ap address-field
+    (sym (first-none TAR (at-start .args .log .now) (c .before .loop .k) h) ∙ c .before .loop .inv .2)
 
 pub address-in-spec : {M : Type 1} → statement M
 address-in-spec =

@@ -1,4 +1,6 @@
--- `bus::bus_sequence` meets its contract.
+-- `bus_sequence`: the loop's invariant `Putting` (proofs/Sequence.antt): what is stored and what the entries
+-- from k on still make are together the whole sequence. `put-on` carries it over an entry, at most 4 places
+-- each, `all-put` closes it at the last; `entries - k` decreases.
 use Rattle.bus.proofs.Sequence.{Putting, begun, put-on, same-long, all-put}
 use borrow.Author.Needs.{needs}
 use lib.ListN.{length}
@@ -9,7 +11,8 @@ use Rattle.bus.proofs.bus_sequence.Statement.{statement}
 use Rattle.bus.proofs.bus_sequence.Tie as tie
 
 abbrev Inv-loop : tie.InvT-loop
-Inv-loop log out₀ address entries placed₀ k₀ out placed k = (entries ≡ length log / 2) × (address < 1024) × Putting log out₀ address out placed k
+Inv-loop log out₀ address entries placed₀ k₀ out placed k =
+    (entries ≡ length log / 2) × (address < 1024) × Putting log out₀ address out placed k
 
 abbrev μ-loop : tie.MeasureT-loop
 μ-loop log out₀ address entries placed₀ k₀ out placed k = entries - k
@@ -21,7 +24,13 @@ new-requires : tie.Need-new-requires Inv-loop μ-loop
 new-requires c κs = search needs
 
 loop-holds : tie.Need-loop-holds Inv-loop μ-loop
-loop-holds c = (refl, omega (arith, c .before .address-in .ensures), begun (c .before .before .before .before .args .log .now) (c .before .before .before .before .args .out .now) (c .before .address-in .result) (c .new .ensures))
+loop-holds c =
+    let at-start = c .before .before .before .before in (
+      refl,
+      omega (arith, c .before .address-in .ensures),
+      begun (at-start .args .log .now) (at-start .args .out .now) (c .before .address-in .result)
+          (c .new .ensures),
+    )
 
 written-at-requires : tie.Need-written-at-requires Inv-loop μ-loop
 written-at-requires c κs = search needs
@@ -36,13 +45,30 @@ loop-less : tie.Need-loop-less Inv-loop μ-loop
 loop-less c = search needs
 
 loop-again : tie.Need-loop-again Inv-loop μ-loop
-loop-again c = let i = c .before .before .before .before .before .before .loop .inv in let h : c .before .before .before .before .before .before .loop .k < length (c .before .before .before .before .before .before .before .before .before .before .before .args .log .now) / 2 = omega (arith, i .0, c .before .before .before .before .before .loop-test .taken) in (i .0, i .1, put-on (i .2) h (c .before .before .before .before .written-at .ensures) (c .before .before .put .ensures))
+loop-again c =
+    let at-put = c .before .before in
+    let at-written-at = at-put .before .before in
+    let at-loop-test = at-written-at .before in
+    let at-loop = at-loop-test .before in
+    let at-address-in = at-loop .before .before in
+    let at-start = at-address-in .before .before .before in
+    let i = at-loop .loop .inv in
+    let h : at-loop .loop .k < length (at-start .args .log .now) / 2 =
+    omega (arith, i .0, at-loop-test .loop-test .taken) in
+    (i .0, i .1, put-on (i .2) h (at-written-at .written-at .ensures) (at-put .put .ensures))
 
 same-length : tie.Need-same-length Inv-loop μ-loop
 same-length c = same-long (c .before .loop .inv .2)
 
 returns : tie.Need-returns Inv-loop μ-loop
-returns c = let i = c .before .loop .inv in let h : length (c .before .before .before .before .before .before .args .log .now) / 2 ≤ c .before .loop .k = omega (arith, i .0, c .loop-test .left) in let p = all-put (i .2) h in (rw (← c .before .before .before .address-in .ensures) (p .0), rw (← c .before .before .before .address-in .ensures) (p .1))
+returns c =
+    let at-address-in = c .before .before .before in
+    let at-start = at-address-in .before .before .before in
+    let i = c .before .loop .inv in
+    let h : length (at-start .args .log .now) / 2 ≤ c .before .loop .k =
+    omega (arith, i .0, c .loop-test .left) in
+    let p = all-put (i .2) h in
+    (rw (← at-address-in .address-in .ensures) (p .0), rw (← at-address-in .address-in .ensures) (p .1))
 
 pub bus-sequence-spec : {M : Type 1} → statement M
 bus-sequence-spec =

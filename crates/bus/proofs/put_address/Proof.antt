@@ -1,4 +1,6 @@
--- `bus::put_address` meets its contract.
+-- `put_address`: the contracts of the two `put` calls and of `bit` composed: `sets` of a list of two is two
+-- `set`, the second at `at + 1`. The required `address < 1024` and `at + 2 < 2 ^ 64` exclude overflow in the
+-- sums.
 use native.Mathlib.Numerals.{add-one}
 use mathlib.Core.Path.{refl}
 use borrow.Author.Needs.{needs}
@@ -33,7 +35,11 @@ same-length : tie.Need-same-length
 same-length c = search needs
 
 returns : tie.Need-returns
-returns c = (refl, simp (c .before .before .before .before .before .before .before .put .ensures, c .before .before .before .bit .ensures .0, c .before .before .put2 .ensures, add-one))
+returns c =
+    let at-put2 = c .before .before in
+    let at-bit = at-put2 .before in
+    let at-put = at-bit .before .before .before .before in
+    (refl, simp (at-put .put .ensures, at-bit .bit .ensures .0, at-put2 .put2 .ensures, add-one))
 
 pub put-address-spec : {M : Type 1} → statement M
 put-address-spec =

@@ -14,7 +14,10 @@ same-length : tie.Need-same-length
 same-length c = search needs
 
 returns : tie.Need-returns
-returns c = rw (c .before .before .before .before .if1 .taken) (refl, c .before .before .put .ensures)
+returns c =
+    let at-put = c .before .before in
+    let at-if1 = at-put .before .before in
+    rw (at-if1 .if1 .taken) (refl, at-put .put .ensures)
 
 returns-2 : tie.Need-returns-2
 returns-2 c = rw (c .if1 .left) (search needs)

@@ -1,4 +1,6 @@
--- `bus::written_at` meets its contract.
+-- `written_at`: from `k < length log / 2` both k * 2 and k * 2 + 1 are places of the log. `entry_of`'s
+-- contract gives the entry; its variant, and for a write the test `r == register`, select the case of
+-- `written-by`.
 use borrow.Author.Tests.{eq-eqb, ne-eqb}
 use borrow.Author.Needs.{needs}
 use Rattle.bus.proofs.written_at.Statement.{statement}
@@ -35,16 +37,26 @@ enum-told-2 : tie.Need-enum-told-2
 enum-told-2 c = search needs
 
 returns : tie.Need-returns
-returns c = rw (← c .before .before .entry-of .ensures, c .enum-told .given .1)
+returns c =
+    let at-entry-of = c .before .before in
+    rw (← at-entry-of .entry-of .ensures, c .enum-told .given .1)
 
 returns-2 : tie.Need-returns-2
-returns-2 c = rw (← c .before .before .before .before .entry-of .ensures, c .before .before .e .given .1, eq-eqb _ _ (c .if1 .taken))
+returns-2 c =
+    let at-e = c .before .before in
+    let at-entry-of = at-e .before .before in
+    rw (← at-entry-of .entry-of .ensures, at-e .e .given .1, eq-eqb _ _ (c .if1 .taken))
 
 returns-3 : tie.Need-returns-3
-returns-3 c = rw (← c .before .before .before .before .entry-of .ensures, c .before .before .e .given .1, ne-eqb _ _ (c .if1 .left))
+returns-3 c =
+    let at-e = c .before .before in
+    let at-entry-of = at-e .before .before in
+    rw (← at-entry-of .entry-of .ensures, at-e .e .given .1, ne-eqb _ _ (c .if1 .left))
 
 returns-4 : tie.Need-returns-4
-returns-4 c = rw (← c .before .before .entry-of .ensures, c .enum-told2 .given .1)
+returns-4 c =
+    let at-entry-of = c .before .before in
+    rw (← at-entry-of .entry-of .ensures, c .enum-told2 .given .1)
 
 pub written-at-spec : {M : Type 1} → statement M
 written-at-spec =

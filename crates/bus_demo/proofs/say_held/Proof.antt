@@ -1,4 +1,5 @@
--- `bus_demo::say_held` is safe and ends.
+-- `say_held`: safety and termination only. `least` gives `held ≤ length places`, so index i below held is in
+-- range; `held - i` decreases.
 use Prim.Native.Nat.{_≤_, _-_}
 use lib.ListN.{length}
 use borrow.Author.Needs.{needs}

@@ -1,4 +1,6 @@
--- `bus_svg::draw` meets its contract.
+-- `draw`: safety only. The prefix `log[..n]` exists because `least` bounds n by the log's length, and
+-- `out[..made]` because `picture`'s contract bounds where its text ends by the length of `out`, which it
+-- keeps.
 use native.Mathlib.Omega.{arith}
 use mathlib.Core.Path.{sym}
 use lib.Seq.{length-take-le}
@@ -19,7 +21,11 @@ slice-reshare-prefix-write-all : tie.Need-slice-reshare-prefix-write-all
 slice-reshare-prefix-write-all c = search needs
 
 slice-aggregate-write-all : tie.Need-slice-aggregate-write-all
-slice-aggregate-write-all c = sym (length-take-le _ _ (omega (arith, c .before .before .before .before .before .picture .ensures .room, c .before .before .before .before .before .picture .kept .1 .1 .0)))
+slice-aggregate-write-all c =
+    let at-places = c .before .before .before .before in
+    let at-picture = at-places .before in
+    sym (length-take-le _ _
+    (omega (arith, at-picture .picture .ensures .room, at-picture .picture .kept .1 .1 .0)))
 
 write-all-requires : tie.Need-write-all-requires
 write-all-requires c κs = search needs

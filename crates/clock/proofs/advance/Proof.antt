@@ -1,4 +1,5 @@
--- `clock::advance` meets its contract.
+-- `advance`: a match on the point; in each arm the variant rewrites `advance-of`. Two arms use a callee's
+-- contract: `disabled` after the first write, `with_sda_tx_hold` for the word to write to SDA_HOLD.
 use borrow.Author.Needs.{needs}
 use Rattle.clock.proofs.advance.Statement.{statement}
 use Rattle.clock.proofs.advance.Tie as tie
@@ -46,7 +47,9 @@ returns-4 : tie.Need-returns-4
 returns-4 c = simp (c .before .p4 .given .1)
 
 returns-5 : tie.Need-returns-5
-returns-5 c = simp (c .before .before .p5 .given .1, c .with-sda-tx-hold .ensures)
+returns-5 c =
+    let at-p5 = c .before .before in
+    simp (at-p5 .p5 .given .1, c .with-sda-tx-hold .ensures)
 
 returns-6 : tie.Need-returns-6
 returns-6 c = search needs

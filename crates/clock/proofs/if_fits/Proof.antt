@@ -1,5 +1,5 @@
 -- `clock::if_fits` meets its contract.
-use Rattle.clock.specs.Machine.{fits}
+use Rattle.clock.specs.inner.Machine.{fits}
 use borrow.Author.Tests.{le-ltb, lt-ltb}
 use Rattle.clock.proofs.if_fits.Statement.{statement}
 use Rattle.clock.proofs.if_fits.Tie as tie

@@ -1,5 +1,5 @@
 -- `clock::if_holds` meets its contract.
-use Rattle.clock.specs.Machine.{holds}
+use Rattle.clock.specs.inner.Machine.{holds}
 use borrow.Author.Tests.{le-ltb, lt-ltb}
 use borrow.Author.Needs.{needs}
 use Rattle.clock.proofs.if_holds.Statement.{statement}
@@ -25,11 +25,15 @@ add-if4 c = search needs
 
 returns-4 : tie.Need-returns-4
 unfolding holds
-returns-4 c = simp (le-ltb _ _ (c .before .before .if1 .left), le-ltb _ _ (c .before .if3 .left), lt-ltb _ _ (c .if4 .taken))
+returns-4 c =
+    let at-if1 = c .before .before in
+    simp (le-ltb _ _ (at-if1 .if1 .left), le-ltb _ _ (c .before .if3 .left), lt-ltb _ _ (c .if4 .taken))
 
 returns-5 : tie.Need-returns-5
 unfolding holds
-returns-5 c = simp (le-ltb _ _ (c .before .before .if1 .left), le-ltb _ _ (c .before .if3 .left), le-ltb _ _ (c .if4 .left))
+returns-5 c =
+    let at-if1 = c .before .before in
+    simp (le-ltb _ _ (at-if1 .if1 .left), le-ltb _ _ (c .before .if3 .left), le-ltb _ _ (c .if4 .left))
 
 pub if-holds-spec : {M : Type 1} → statement M
 if-holds-spec =

@@ -1,5 +1,5 @@
 -- `clock::if_reaches` meets its contract.
-use Rattle.clock.specs.Machine.{reaches}
+use Rattle.clock.specs.inner.Machine.{reaches}
 use borrow.Author.Tests.{le-ltb, lt-ltb}
 use Rattle.clock.proofs.if_reaches.Statement.{statement}
 use Rattle.clock.proofs.if_reaches.Tie as tie

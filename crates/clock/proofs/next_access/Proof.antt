@@ -1,4 +1,5 @@
--- `clock::next_access` meets its contract.
+-- `next_access`: a match on the point; in each arm the variant rewrites `next-of` to the access that the arm
+-- gives. No law is needed.
 use borrow.Author.Needs.{needs}
 use Rattle.clock.proofs.next_access.Statement.{statement}
 use Rattle.clock.proofs.next_access.Tie as tie

@@ -14,7 +14,8 @@ div-result c = search needs
 
 returns : tie.Need-returns
 unfolding period
-returns c = (refl, period-fits (c .args .frequency) (c .args .clk) (search needs) (search needs) (search needs))
+returns c =
+    (refl, period-fits (c .args .frequency) (c .args .clk) (search needs) (search needs) (search needs))
 
 pub period-of-spec : {M : Type 1} → statement M
 period-of-spec = tie.close (tie.spec add-result div-result returns)

@@ -1,6 +1,6 @@
 -- `clock::set_config` meets its contract.
 use Rattle.clock.proofs.Agrees.{set-config-agrees}
-use Rattle.clock.specs.Machine.{machine}
+use Rattle.clock.specs.inner.Machine.{machine}
 use Rattle.clock.specs.SetConfig.{set-config}
 use Rattle.regs.proofs.Refine.{leaves}
 use denote.Ref.{now}
@@ -20,11 +20,14 @@ same-length c = search needs
 
 returns : tie.Need-returns
 returns c =
-    let d = c .before .before in
-    let p = c .before .before .before .before in
-    let s = c .before .before .before .before .before .before .before in
-    leaves machine (p .start .result) (set-config (s .args .frequency) (s .args .clk)) (now (s .args .readings)) (now (s .args .log)) _ [] [] tt (d .drive .result)
-    (λ m k h. rw (p .start .ensures) (set-config-agrees (s .args .frequency) (s .args .clk) m k h [])) (d .drive .ensures)
+    let at-drive = c .before .before in
+    let at-start = at-drive .before .before in
+    let at-start′ = at-start .before .before .before in
+    leaves machine (at-start .start .result) (set-config (at-start′ .args .frequency) (at-start′ .args .clk))
+    (now (at-start′ .args .readings)) (now (at-start′ .args .log)) _ [] [] tt (at-drive .drive .result)
+    (λ m k h. rw (at-start .start .ensures)
+    (set-config-agrees (at-start′ .args .frequency) (at-start′ .args .clk) m k h []))
+    (at-drive .drive .ensures)
 
 pub set-config-spec : {M : Type 1} → statement M
 set-config-spec = tie.close (tie.spec start-requires drive-requires same-length returns)

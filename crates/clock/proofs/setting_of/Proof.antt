@@ -1,4 +1,6 @@
--- `clock::setting_of` meets its contract.
+-- `setting_of`: the eight callees' contracts put together give `setting`. `period_of`'s bound 1431655765 is
+-- what `low_of` requires, `low_of`'s `r ≤ p` what `high_of` requires, and `hold_of`'s bound 1000 what
+-- `if_holds` requires.
 use borrow.Author.Needs.{needs}
 use Rattle.clock.proofs.setting_of.Statement.{statement}
 use Rattle.clock.proofs.setting_of.Tie as tie
@@ -31,7 +33,23 @@ if-fits-requires : tie.Need-if-fits-requires
 if-fits-requires c κs = search needs
 
 returns : tie.Need-returns
-returns c = simp (c .before .before .before .before .before .before .before .period-of .ensures .0, c .before .before .before .before .before .before .low-of .ensures .0, c .before .before .before .before .before .high-of .ensures, c .before .before .before .before .hold-of .ensures .0, c .before .before .before .spklen-of .ensures, c .before .before .if-holds .ensures, c .before .if-reaches .ensures, c .if-fits .ensures)
+returns c =
+    let at-if-holds = c .before .before in
+    let at-spklen-of = at-if-holds .before in
+    let at-hold-of = at-spklen-of .before in
+    let at-high-of = at-hold-of .before in
+    let at-low-of = at-high-of .before in
+    let at-period-of = at-low-of .before in
+    simp (
+      at-period-of .period-of .ensures .0,
+      at-low-of .low-of .ensures .0,
+      at-high-of .high-of .ensures,
+      at-hold-of .hold-of .ensures .0,
+      at-spklen-of .spklen-of .ensures,
+      at-if-holds .if-holds .ensures,
+      c .before .if-reaches .ensures,
+      c .if-fits .ensures,
+    )
 
 pub setting-of-spec : {M : Type 1} → statement M
 setting-of-spec =

@@ -1,4 +1,6 @@
--- `explain::say_bus` meets its contract.
+-- `say_bus`: safety only. The prefix `log[..n]` exists because `least` bounds n by the log's length, and
+-- `out[..made]` because `bus_line`'s contract bounds where its text ends by the length of `out`, which it
+-- keeps.
 use mathlib.Core.Path.{sym}
 use native.Mathlib.Omega.{arith}
 use lib.Seq.{length-take-le}
@@ -19,7 +21,11 @@ slice-reshare-prefix-say : tie.Need-slice-reshare-prefix-say
 slice-reshare-prefix-say c = search needs
 
 slice-aggregate-say : tie.Need-slice-aggregate-say
-slice-aggregate-say c = sym (length-take-le _ _ (omega (arith, c .before .before .before .before .before .bus-line .ensures .room, c .before .before .before .before .before .bus-line .kept .1 .1 .0)))
+slice-aggregate-say c =
+    let at-places = c .before .before .before .before in
+    let at-bus-line = at-places .before in
+    sym (length-take-le _ _
+    (omega (arith, at-bus-line .bus-line .ensures .room, at-bus-line .bus-line .kept .1 .1 .0)))
 
 say-requires : tie.Need-say-requires
 say-requires c κs = search needs

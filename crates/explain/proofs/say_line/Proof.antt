@@ -1,4 +1,5 @@
--- `explain::say_line` meets its contract.
+-- `say_line`: safety only. The prefix `out[..made]` exists because `tell`'s contract bounds where its text
+-- ends by the length of `out`, which it keeps.
 use mathlib.Core.Path.{sym}
 use native.Mathlib.Omega.{arith}
 use lib.Seq.{length-take-le}
@@ -28,7 +29,9 @@ slice-reshare-prefix-say : tie.Need-slice-reshare-prefix-say
 slice-reshare-prefix-say c = search needs
 
 slice-aggregate-say-3 : tie.Need-slice-aggregate-say-3
-slice-aggregate-say-3 c = sym (length-take-le _ _ (omega (arith, c .before .before .before .before .tell .ensures .room, c .before .before .before .before .tell .kept .1 .1 .0)))
+slice-aggregate-say-3 c =
+    let at-tell = c .before .before .before .before in
+    sym (length-take-le _ _ (omega (arith, at-tell .tell .ensures .room, at-tell .tell .kept .1 .1 .0)))
 
 say-requires-3 : tie.Need-say-requires-3
 say-requires-3 c κs = search needs

@@ -1,4 +1,6 @@
--- `replay::main` meets its contract.
+-- `main`: `length-replicate` gives the lengths of the arrays that `read_all` requires, and its `kept` lengths
+-- carry them on to `finish`; `made`, at most the length of `out`, keeps the last slice in range. There is no
+-- `ensures`: only ranges and the callees' preconditions are proved.
 use Prim.Native.Nat.{ℕ, _≤_}
 use mathlib.Core.Path.{_≡_, sym, subst⁻¹, _∙_}
 use lib.ListN.{length, replicate, length-replicate}
@@ -46,40 +48,98 @@ slice-aggregate-read-all-9 : tie.Need-slice-aggregate-read-all-9
 slice-aggregate-read-all-9 c = sym (size 262144)
 
 read-all-requires : tie.Need-read-all-requires
-read-all-requires c κs = (size 8198, record { kinds = size 64; lengths = size 64; bytes = size 4096; readings = size 8192 }, size 4096, size 16384, room)
+read-all-requires c κs = (
+  size 8198,
+  record { kinds = size 64; lengths = size 64; bytes = size 4096; readings = size 8192 },
+  size 4096,
+  size 16384,
+  room,
+)
 
 slice-aggregate-finish : tie.Need-slice-aggregate-finish
-slice-aggregate-finish c = sym (c .before .before .before .before .before .before .before .before .before .before .read-all .kept .1 .0 ∙ size 8198)
+slice-aggregate-finish c =
+    let at-readings2 = c .before .before .before .before in
+    let at-text2 = at-readings2 .before .before .before .before in
+    let at-read-all = at-text2 .before .before in
+    sym (at-read-all .read-all .kept .1 .0 ∙ size 8198)
 
 slice-aggregate-finish-2 : tie.Need-slice-aggregate-finish-2
-slice-aggregate-finish-2 c = sym (c .before .before .before .before .before .before .before .before .before .before .before .read-all .kept .1 .1 .0 ∙ size 64)
+slice-aggregate-finish-2 c =
+    let at-buffer2 = c .before .before .before .before in
+    let at-kinds2 = at-buffer2 .before .before .before .before in
+    let at-read-all = at-kinds2 .before .before .before in
+    sym (at-read-all .read-all .kept .1 .1 .0 ∙ size 64)
 
 slice-aggregate-finish-3 : tie.Need-slice-aggregate-finish-3
-slice-aggregate-finish-3 c = sym (c .before .before .before .before .before .before .before .before .before .before .before .before .read-all .kept .1 .1 .1 .0 ∙ size 64)
+slice-aggregate-finish-3 c =
+    let at-log2 = c .before .before .before .before in
+    let at-lengths2 = at-log2 .before .before .before .before in
+    let at-read-all = at-lengths2 .before .before .before .before in
+    sym (at-read-all .read-all .kept .1 .1 .1 .0 ∙ size 64)
 
 slice-aggregate-finish-4 : tie.Need-slice-aggregate-finish-4
-slice-aggregate-finish-4 c = sym (c .before .before .before .before .before .before .before .before .before .before .before .before .before .read-all .kept .1 .1 .1 .1 .0 ∙ size 4096)
+slice-aggregate-finish-4 c =
+    let at-out2 = c .before .before .before .before in
+    let at-bytes2 = at-out2 .before .before .before .before in
+    let at-chunk2 = at-bytes2 .before .before .before .before in
+    let at-read-all = at-chunk2 .before in
+    sym (at-read-all .read-all .kept .1 .1 .1 .1 .0 ∙ size 4096)
 
 slice-aggregate-finish-5 : tie.Need-slice-aggregate-finish-5
-slice-aggregate-finish-5 c = sym (c .before .before .before .before .before .before .before .before .before .before .before .before .before .before .read-all .kept .1 .1 .1 .1 .1 .0 ∙ size 8192)
+slice-aggregate-finish-5 c =
+    let at-text3 = c .before .before .before .before in
+    let at-readings2 = at-text3 .before .before .before .before in
+    let at-text2 = at-readings2 .before .before .before .before in
+    let at-read-all = at-text2 .before .before in
+    sym (at-read-all .read-all .kept .1 .1 .1 .1 .1 .0 ∙ size 8192)
 
 slice-aggregate-finish-6 : tie.Need-slice-aggregate-finish-6
-slice-aggregate-finish-6 c = sym (c .before .before .before .before .before .before .before .before .before .before .before .before .before .before .before .read-all .kept .1 .1 .1 .1 .1 .1 .0 ∙ size 4096)
+slice-aggregate-finish-6 c =
+    let at-kinds3 = c .before .before .before .before in
+    let at-buffer2 = at-kinds3 .before .before .before .before in
+    let at-kinds2 = at-buffer2 .before .before .before .before in
+    let at-read-all = at-kinds2 .before .before .before in
+    sym (at-read-all .read-all .kept .1 .1 .1 .1 .1 .1 .0 ∙ size 4096)
 
 slice-aggregate-finish-7 : tie.Need-slice-aggregate-finish-7
-slice-aggregate-finish-7 c = sym (c .before .before .before .before .before .before .before .before .before .before .before .before .before .before .before .before .read-all .kept .1 .1 .1 .1 .1 .1 .1 .0 ∙ size 16384)
+slice-aggregate-finish-7 c =
+    let at-lengths3 = c .before .before .before .before in
+    let at-log2 = at-lengths3 .before .before .before .before in
+    let at-lengths2 = at-log2 .before .before .before .before in
+    let at-read-all = at-lengths2 .before .before .before .before in
+    sym (at-read-all .read-all .kept .1 .1 .1 .1 .1 .1 .1 .0 ∙ size 16384)
 
 slice-aggregate-finish-8 : tie.Need-slice-aggregate-finish-8
-slice-aggregate-finish-8 c = sym (c .before .before .before .before .before .before .before .before .before .before .before .before .before .before .before .before .before .read-all .kept .1 .1 .1 .1 .1 .1 .1 .1 .0 ∙ size 262144)
+slice-aggregate-finish-8 c =
+    let at-bytes3 = c .before .before .before .before in
+    let at-out2 = at-bytes3 .before .before .before .before in
+    let at-bytes2 = at-out2 .before .before .before .before in
+    let at-chunk2 = at-bytes2 .before .before .before .before in
+    let at-read-all = at-chunk2 .before in
+    sym (at-read-all .read-all .kept .1 .1 .1 .1 .1 .1 .1 .1 .0 ∙ size 262144)
 
 finish-requires : tie.Need-finish-requires
-finish-requires c κs = (c .before .before .before .before .before .before .before .before .before .before .before .before .before .before .before .before .before .read-all .ensures, subst⁻¹ (λ (n : ℕ). 114717 ≤ n) (c .before .before .before .before .before .before .before .before .before .before .before .before .before .before .before .before .before .read-all .kept .1 .1 .1 .1 .1 .1 .1 .1 .0) room)
+finish-requires c κs =
+    let at-bytes3 = c .before .before .before .before in
+    let at-out2 = at-bytes3 .before .before .before .before in
+    let at-bytes2 = at-out2 .before .before .before .before in
+    let at-chunk2 = at-bytes2 .before .before .before .before in
+    let at-read-all = at-chunk2 .before in (
+      at-read-all .read-all .ensures,
+      subst⁻¹ (λ (n : ℕ). 114717 ≤ n) (at-read-all .read-all .kept .1 .1 .1 .1 .1 .1 .1 .1 .0) room,
+    )
 
 array-share-prefix-out : tie.Need-array-share-prefix-out
-array-share-prefix-out c = c .before .before .before .before .before .before .before .finish .ensures .made
+array-share-prefix-out c =
+    let at-bytes4 = c .before .before .before .before in
+    let at-finish = at-bytes4 .before .before .before in
+    at-finish .finish .ensures .made
 
 slice-aggregate-write-all : tie.Need-slice-aggregate-write-all
-slice-aggregate-write-all c = sym (length-take-le _ _ (c .before .before .before .before .before .before .before .before .finish .ensures .made))
+slice-aggregate-write-all c =
+    let at-readings4 = c .before .before .before .before in
+    let at-finish = at-readings4 .before .before .before .before in
+    sym (length-take-le _ _ (at-finish .finish .ensures .made))
 
 write-all-requires : tie.Need-write-all-requires
 write-all-requires c κs = search needs

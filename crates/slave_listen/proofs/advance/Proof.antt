@@ -1,4 +1,6 @@
--- `slave_listen::advance` meets its contract.
+-- `advance`: the match on the point decides, nineteen cases as in `advance-listen`; seventeen are `stay` at a
+-- point, two of them with the point from `after_status` and `settle`, and `after_level` and `after_data` give
+-- the two that may store a byte.
 use borrow.Author.Needs.{needs}
 use Rattle.slave_listen.proofs.advance.Statement.{statement}
 use Rattle.slave_listen.proofs.advance.Tie as tie
@@ -127,31 +129,49 @@ returns : tie.Need-returns
 returns c = simp (c .before .enum-told .given .1, c .stay .ensures)
 
 returns-2 : tie.Need-returns-2
-returns-2 c = simp (c .before .before .p .given .1, c .stay2 .ensures)
+returns-2 c =
+    let at-p = c .before .before in
+    simp (at-p .p .given .1, c .stay2 .ensures)
 
 returns-3 : tie.Need-returns-3
-returns-3 c = simp (c .before .before .p2 .given .1, c .after-level .ensures)
+returns-3 c =
+    let at-p2 = c .before .before in
+    simp (at-p2 .p2 .given .1, c .after-level .ensures)
 
 returns-4 : tie.Need-returns-4
-returns-4 c = simp (c .before .before .before .p3 .given .1, c .before .after-status .ensures, c .stay3 .ensures)
+returns-4 c =
+    let at-p3 = c .before .before .before in
+    simp (at-p3 .p3 .given .1, c .before .after-status .ensures, c .stay3 .ensures)
 
 returns-5 : tie.Need-returns-5
-returns-5 c = simp (c .before .before .p4 .given .1, c .after-data .ensures)
+returns-5 c =
+    let at-p4 = c .before .before in
+    simp (at-p4 .p4 .given .1, c .after-data .ensures)
 
 returns-6 : tie.Need-returns-6
-returns-6 c = simp (c .before .before .before .p5 .given .1, c .before .settle .ensures, c .stay4 .ensures)
+returns-6 c =
+    let at-p5 = c .before .before .before in
+    simp (at-p5 .p5 .given .1, c .before .settle .ensures, c .stay4 .ensures)
 
 returns-7 : tie.Need-returns-7
-returns-7 c = simp (c .before .before .p6 .given .1, c .stay5 .ensures)
+returns-7 c =
+    let at-p6 = c .before .before in
+    simp (at-p6 .p6 .given .1, c .stay5 .ensures)
 
 returns-8 : tie.Need-returns-8
-returns-8 c = simp (c .before .before .p7 .given .1, c .stay6 .ensures)
+returns-8 c =
+    let at-p7 = c .before .before in
+    simp (at-p7 .p7 .given .1, c .stay6 .ensures)
 
 returns-9 : tie.Need-returns-9
-returns-9 c = simp (c .before .before .p8 .given .1, c .stay7 .ensures)
+returns-9 c =
+    let at-p8 = c .before .before in
+    simp (at-p8 .p8 .given .1, c .stay7 .ensures)
 
 returns-10 : tie.Need-returns-10
-returns-10 c = simp (c .before .before .p9 .given .1, c .stay8 .ensures)
+returns-10 c =
+    let at-p9 = c .before .before in
+    simp (at-p9 .p9 .given .1, c .stay8 .ensures)
 
 returns-11 : tie.Need-returns-11
 returns-11 c = simp (c .before .enum-told2 .given .1, c .stay9 .ensures)
@@ -163,22 +183,34 @@ returns-13 : tie.Need-returns-13
 returns-13 c = simp (c .before .enum-told4 .given .1, c .stay11 .ensures)
 
 returns-14 : tie.Need-returns-14
-returns-14 c = simp (c .before .before .p10 .given .1, c .stay12 .ensures)
+returns-14 c =
+    let at-p10 = c .before .before in
+    simp (at-p10 .p10 .given .1, c .stay12 .ensures)
 
 returns-15 : tie.Need-returns-15
-returns-15 c = simp (c .before .before .p11 .given .1, c .stay13 .ensures)
+returns-15 c =
+    let at-p11 = c .before .before in
+    simp (at-p11 .p11 .given .1, c .stay13 .ensures)
 
 returns-16 : tie.Need-returns-16
-returns-16 c = simp (c .before .before .p12 .given .1, c .stay14 .ensures)
+returns-16 c =
+    let at-p12 = c .before .before in
+    simp (at-p12 .p12 .given .1, c .stay14 .ensures)
 
 returns-17 : tie.Need-returns-17
-returns-17 c = simp (c .before .before .p13 .given .1, c .stay15 .ensures)
+returns-17 c =
+    let at-p13 = c .before .before in
+    simp (at-p13 .p13 .given .1, c .stay15 .ensures)
 
 returns-18 : tie.Need-returns-18
-returns-18 c = simp (c .before .before .p14 .given .1, c .stay16 .ensures)
+returns-18 c =
+    let at-p14 = c .before .before in
+    simp (at-p14 .p14 .given .1, c .stay16 .ensures)
 
 returns-19 : tie.Need-returns-19
-returns-19 c = simp (c .before .before .p15 .given .1, c .stay17 .ensures)
+returns-19 c =
+    let at-p15 = c .before .before in
+    simp (at-p15 .p15 .given .1, c .stay17 .ensures)
 
 pub advance-spec : {M : Type 1} → statement M
 advance-spec =

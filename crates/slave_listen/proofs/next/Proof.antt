@@ -1,4 +1,5 @@
--- `slave_listen::next` meets its contract.
+-- `next`: the match on the point decides, nineteen constant cases that are `next-listen` by definition; the
+-- constant `MASK` is the 0x1a24 written there.
 use borrow.Author.Needs.{needs}
 use Rattle.slave_listen.proofs.next.Statement.{statement}
 use Rattle.slave_listen.proofs.next.Tie as tie

@@ -1,4 +1,6 @@
--- `slave_respond::advance` meets its contract.
+-- `advance`: the match on the point decides, as in `advance-respond`; in two points a test follows, of
+-- TX_ABRT and of v == 0 (`eq-eqb`, `ne-eqb`), and `feed` at the `count` of the job gives the branch without
+-- an abort. `reason`, `after_reason` and `after_byte` give the points of two others.
 use borrow.Author.Tests.{eq-eqb, ne-eqb}
 use mathlib.Core.Path.{sym, _∙_}
 use borrow.Author.Needs.{needs}
@@ -96,43 +98,91 @@ on-requires-11 : tie.Need-on-requires-11
 on-requires-11 c κs = search needs
 
 returns : tie.Need-returns
-returns c = simp (c .before .before .before .before .point .given .1, sym (c .before .before .has-tx-abrt .ensures) ∙ c .before .if1 .taken, c .on .ensures)
+returns c =
+    let at-has-tx-abrt = c .before .before in
+    let at-point = at-has-tx-abrt .before .before in
+    simp (
+      at-point .point .given .1,
+      sym (at-has-tx-abrt .has-tx-abrt .ensures) ∙ c .before .if1 .taken,
+      c .on .ensures,
+    )
 
 returns-2 : tie.Need-returns-2
-returns-2 c = simp (c .before .before .before .before .before .point .given .1, sym (c .before .before .before .has-tx-abrt .ensures) ∙ c .before .before .if1 .left, c .before .count .ensures, c .feed .ensures)
+returns-2 c =
+    let at-if1 = c .before .before in
+    let at-has-tx-abrt = at-if1 .before in
+    let at-point = at-has-tx-abrt .before .before in
+    simp (
+      at-point .point .given .1,
+      sym (at-has-tx-abrt .has-tx-abrt .ensures) ∙ at-if1 .if1 .left,
+      c .before .count .ensures,
+      c .feed .ensures,
+    )
 
 returns-3 : tie.Need-returns-3
-returns-3 c = simp (c .before .before .before .before .point2 .given .1, eq-eqb _ _ (c .before .before .if2 .taken), c .before .count2 .ensures, c .feed2 .ensures)
+returns-3 c =
+    let at-if2 = c .before .before in
+    let at-point2 = at-if2 .before .before in
+    simp (
+      at-point2 .point2 .given .1,
+      eq-eqb _ _ (at-if2 .if2 .taken),
+      c .before .count2 .ensures,
+      c .feed2 .ensures,
+    )
 
 returns-4 : tie.Need-returns-4
-returns-4 c = simp (c .before .before .before .point2 .given .1, ne-eqb _ _ (c .before .if2 .left), c .on2 .ensures)
+returns-4 c =
+    let at-point2 = c .before .before .before in
+    simp (at-point2 .point2 .given .1, ne-eqb _ _ (c .before .if2 .left), c .on2 .ensures)
 
 returns-5 : tie.Need-returns-5
-returns-5 c = simp (c .before .before .before .before .point3 .given .1, c .before .before .reason .ensures, c .before .after-reason .ensures, c .on3 .ensures)
+returns-5 c =
+    let at-reason = c .before .before in
+    let at-point3 = at-reason .before .before in
+    simp (
+      at-point3 .point3 .given .1,
+      at-reason .reason .ensures,
+      c .before .after-reason .ensures,
+      c .on3 .ensures,
+    )
 
 returns-6 : tie.Need-returns-6
-returns-6 c = simp (c .before .before .point4 .given .1, c .on4 .ensures)
+returns-6 c =
+    let at-point4 = c .before .before in
+    simp (at-point4 .point4 .given .1, c .on4 .ensures)
 
 returns-7 : tie.Need-returns-7
-returns-7 c = simp (c .before .before .point5 .given .1, c .on5 .ensures)
+returns-7 c =
+    let at-point5 = c .before .before in
+    simp (at-point5 .point5 .given .1, c .on5 .ensures)
 
 returns-8 : tie.Need-returns-8
-returns-8 c = simp (c .before .before .before .point6 .given .1, c .before .after-byte .ensures, c .on6 .ensures)
+returns-8 c =
+    let at-point6 = c .before .before .before in
+    simp (at-point6 .point6 .given .1, c .before .after-byte .ensures, c .on6 .ensures)
 
 returns-9 : tie.Need-returns-9
 returns-9 c = simp (c .before .enum-told .given .1, c .on7 .ensures)
 
 returns-10 : tie.Need-returns-10
-returns-10 c = simp (c .before .before .point7 .given .1, c .on8 .ensures)
+returns-10 c =
+    let at-point7 = c .before .before in
+    simp (at-point7 .point7 .given .1, c .on8 .ensures)
 
 returns-11 : tie.Need-returns-11
-returns-11 c = simp (c .before .before .point8 .given .1, c .on9 .ensures)
+returns-11 c =
+    let at-point8 = c .before .before in
+    simp (at-point8 .point8 .given .1, c .on9 .ensures)
 
 returns-12 : tie.Need-returns-12
-returns-12 c = simp (c .before .before .point9 .given .1, c .on10 .ensures)
+returns-12 c =
+    let at-point9 = c .before .before in
+    simp (at-point9 .point9 .given .1, c .on10 .ensures)
 
 returns-13 : tie.Need-returns-13
-returns-13 c = simp (c .before .before .point10 .given .1, c .on11 .ensures)
+returns-13 c =
+    let at-point10 = c .before .before in
+    simp (at-point10 .point10 .given .1, c .on11 .ensures)
 
 pub advance-spec : {M : Type 1} → statement M
 advance-spec =

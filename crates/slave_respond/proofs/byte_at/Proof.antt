@@ -1,4 +1,5 @@
--- `slave_respond::byte_at` meets its contract.
+-- `byte_at`: the match on the job decides: `byte_of` gives the lent byte, 0 past the end, for the two jobs
+-- that send bytes, and `wide` the fill byte for the other two.
 use borrow.Author.Needs.{needs}
 use Rattle.slave_respond.proofs.byte_at.Statement.{statement}
 use Rattle.slave_respond.proofs.byte_at.Tie as tie

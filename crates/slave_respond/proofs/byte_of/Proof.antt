@@ -16,7 +16,9 @@ returns : tie.Need-returns
 returns c = search needs
 
 returns-2 : tie.Need-returns-2
-returns-2 c = sym (List·getD-eq-default (now (c .before .before .args .bytes)) 0 (c .if1 .left))
+returns-2 c =
+    let at-start = c .before .before in
+    sym (List·getD-eq-default (now (at-start .args .bytes)) 0 (c .if1 .left))
 
 pub byte-of-spec : {M : Type 1} → statement M
 byte-of-spec = tie.close (tie.spec shared-slice-read-b wide-requires returns returns-2)

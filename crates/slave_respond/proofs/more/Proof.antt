@@ -1,4 +1,5 @@
--- `slave_respond::more` meets its contract.
+-- `more`: the match on the job decides, four cases as in `more-bytes`, and `on` returns the response with
+-- that job and point.
 use borrow.Author.Needs.{needs}
 use Rattle.slave_respond.proofs.more.Statement.{statement}
 use Rattle.slave_respond.proofs.more.Tie as tie
@@ -31,13 +32,19 @@ returns : tie.Need-returns
 returns c = simp (c .before .enum-told .given .1, c .on .ensures)
 
 returns-2 : tie.Need-returns-2
-returns-2 c = simp (c .before .before .job .given .1, c .on2 .ensures)
+returns-2 c =
+    let at-job = c .before .before in
+    simp (at-job .job .given .1, c .on2 .ensures)
 
 returns-3 : tie.Need-returns-3
-returns-3 c = simp (c .before .before .job2 .given .1, c .on3 .ensures)
+returns-3 c =
+    let at-job2 = c .before .before in
+    simp (at-job2 .job2 .given .1, c .on3 .ensures)
 
 returns-4 : tie.Need-returns-4
-returns-4 c = simp (c .before .before .job3 .given .1, c .on4 .ensures)
+returns-4 c =
+    let at-job3 = c .before .before in
+    simp (at-job3 .job3 .given .1, c .on4 .ensures)
 
 pub more-spec : {M : Type 1} → statement M
 more-spec =

@@ -1,4 +1,6 @@
--- `slave_respond::next` meets its contract.
+-- `next`: the match on the point decides, eleven cases as in `next-respond`; `byte_at` gives the word written
+-- to DATA_CMD, `answer` the answer at the end, and the other nine are constants or the abort that the point
+-- has.
 use borrow.Author.Needs.{needs}
 use Rattle.slave_respond.proofs.next.Statement.{statement}
 use Rattle.slave_respond.proofs.next.Tie as tie
@@ -58,7 +60,9 @@ returns-5 : tie.Need-returns-5
 returns-5 c = simp (c .enum-told5 .given .1)
 
 returns-6 : tie.Need-returns-6
-returns-6 c = simp (c .before .before .point .given .1, c .byte-at .ensures)
+returns-6 c =
+    let at-point = c .before .before in
+    simp (at-point .point .given .1, c .byte-at .ensures)
 
 returns-7 : tie.Need-returns-7
 returns-7 c = simp (c .enum-told6 .given .1)
@@ -70,7 +74,9 @@ returns-9 : tie.Need-returns-9
 returns-9 c = simp (c .enum-told8 .given .1)
 
 returns-10 : tie.Need-returns-10
-returns-10 c = simp (c .before .before .point2 .given .1, c .answer .ensures)
+returns-10 c =
+    let at-point2 = c .before .before in
+    simp (at-point2 .point2 .given .1, c .answer .ensures)
 
 returns-11 : tie.Need-returns-11
 returns-11 c = simp (c .before .point3 .given .1)

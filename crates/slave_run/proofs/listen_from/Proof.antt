@@ -2,8 +2,8 @@
 use lib.ListN.{length}
 use Rattle.regs.proofs.Refine.{leaves-all}
 use Rattle.slave_steps.proofs.Agrees.{listen-agrees}
-use Rattle.slave_steps.specs.Machine.{machine, start-listen}
-use Rattle.slave_state.specs.I2cSlave.{listen-call}
+use Rattle.slave_steps.specs.inner.Machine.{machine, start-listen}
+use Rattle.slave.specs.I2cSlave.{listen-call}
 use mathlib.Core.List.{[]}
 use denote.Ref.{now}
 use borrow.Author.Needs.{needs}
@@ -27,11 +27,16 @@ same-length-2 c = search needs
 
 returns : tie.Need-returns
 returns c =
-    let d = c .before .before .before .before in
-    let p = c .before .before .before .before .before .before .before .before in
-    let s = c .before .before .before .before .before .before .before .before .before .before .before .before in
-    leaves-all (machine []) (start-listen (s .args .state) (length (now (s .args .buffer)))) (listen-call (length (now (s .args .buffer)))) (now (s .args .readings)) (now (s .args .log)) _ (now (s .args .buffer)) _ (d .run .result .state) (d .run .result .ran)
-    (listen-agrees [] (length (now (s .args .buffer))) (s .args .state) (now (s .args .buffer))) (rw (p .start-listen .ensures) at (d .run .ensures))
+    let at-run = c .before .before .before .before in
+    let at-start-listen = at-run .before .before .before .before in
+    let at-start = at-start-listen .before .before .before .before in
+    leaves-all (machine []) (start-listen (at-start .args .state) (length (now (at-start .args .buffer))))
+    (listen-call (length (now (at-start .args .buffer)))) (now (at-start .args .readings))
+    (now (at-start .args .log)) _ (now (at-start .args .buffer)) _ (at-run .run .result .state)
+    (at-run .run .result .ran)
+    (listen-agrees [] (length (now (at-start .args .buffer))) (at-start .args .state)
+    (now (at-start .args .buffer)))
+    (rw (at-start-listen .start-listen .ensures) at (at-run .run .ensures))
 
 pub listen-from-spec : {M : Type 1} → statement M
 listen-from-spec =

@@ -1,8 +1,8 @@
 -- `slave_run::reset_from` meets its contract.
 use Rattle.regs.proofs.Refine.{leaves-state}
 use Rattle.slave_steps.proofs.Resets.{reset-agrees}
-use Rattle.slave_steps.specs.Machine.{machine, start-reset}
-use Rattle.slave_state.specs.I2cSlave.{reset-call}
+use Rattle.slave_steps.specs.inner.Machine.{machine, start-reset}
+use Rattle.slave.specs.I2cSlave.{reset-call}
 use mathlib.Core.List.{[]}
 use denote.Ref.{now}
 use borrow.Author.Needs.{needs}
@@ -26,11 +26,15 @@ same-length c = search needs
 
 returns : tie.Need-returns
 returns c =
-    let d = c .before .before .before in
-    let p = c .before .before .before .before .before .before .before in
-    let s = c .before .before .before .before .before .before .before .before .before .before in
-    leaves-state (machine []) (start-reset (s .args .state) (s .args .address) (s .args .general-call)) (reset-call (s .args .address) (s .args .general-call)) (now (s .args .readings)) (now (s .args .log)) _ [] _ (d .run .result .state) (d .run .result .ran)
-    (reset-agrees [] (s .args .address) (s .args .general-call) (s .args .state) []) (rw (p .start-reset .ensures) at (d .run .ensures))
+    let at-run = c .before .before .before in
+    let at-start-reset = at-run .before .before .before .before in
+    let at-start = at-start-reset .before .before .before in
+    leaves-state (machine [])
+    (start-reset (at-start .args .state) (at-start .args .address) (at-start .args .general-call))
+    (reset-call (at-start .args .address) (at-start .args .general-call)) (now (at-start .args .readings))
+    (now (at-start .args .log)) _ [] _ (at-run .run .result .state) (at-run .run .result .ran)
+    (reset-agrees [] (at-start .args .address) (at-start .args .general-call) (at-start .args .state) [])
+    (rw (at-start-reset .start-reset .ensures) at (at-run .run .ensures))
 
 pub reset-from-spec : {M : Type 1} → statement M
 reset-from-spec =

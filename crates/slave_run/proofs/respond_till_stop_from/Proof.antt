@@ -1,8 +1,8 @@
 -- `slave_run::respond_till_stop_from` meets its contract.
 use Rattle.regs.proofs.Refine.{leaves-state}
 use Rattle.slave_steps.proofs.Agrees.{respond-till-stop-agrees}
-use Rattle.slave_steps.specs.Machine.{machine, start-fill}
-use Rattle.slave_state.specs.I2cSlave.{respond-till-stop-call}
+use Rattle.slave_steps.specs.inner.Machine.{machine, start-fill}
+use Rattle.slave.specs.I2cSlave.{respond-till-stop-call}
 use mathlib.Core.List.{[]}
 use denote.Ref.{now}
 use borrow.Author.Needs.{needs}
@@ -26,11 +26,14 @@ same-length c = search needs
 
 returns : tie.Need-returns
 returns c =
-    let d = c .before .before .before in
-    let p = c .before .before .before .before .before .before .before in
-    let s = c .before .before .before .before .before .before .before .before .before .before in
-    leaves-state (machine []) (start-fill (s .args .state) (s .args .fill)) (respond-till-stop-call (s .args .fill)) (now (s .args .readings)) (now (s .args .log)) _ [] _ (d .run .result .state) (d .run .result .ran)
-    (respond-till-stop-agrees [] (s .args .fill) (s .args .state) []) (rw (p .start-respond-till-stop .ensures) at (d .run .ensures))
+    let at-run = c .before .before .before in
+    let at-start-respond-till-stop = at-run .before .before .before .before in
+    let at-start = at-start-respond-till-stop .before .before .before in
+    leaves-state (machine []) (start-fill (at-start .args .state) (at-start .args .fill))
+    (respond-till-stop-call (at-start .args .fill)) (now (at-start .args .readings))
+    (now (at-start .args .log)) _ [] _ (at-run .run .result .state) (at-run .run .result .ran)
+    (respond-till-stop-agrees [] (at-start .args .fill) (at-start .args .state) [])
+    (rw (at-start-respond-till-stop .start-respond-till-stop .ensures) at (at-run .run .ensures))
 
 pub respond-till-stop-from-spec : {M : Type 1} → statement M
 respond-till-stop-from-spec =

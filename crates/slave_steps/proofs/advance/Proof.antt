@@ -1,4 +1,6 @@
--- `slave_steps::advance` meets its contract.
+-- `advance`: the match on the point decides, five cases as in `advance-at`: `configure` and `advance_listen`
+-- state theirs in their contracts, and `move_to` carries a refusal unchanged or the point that the `advance`
+-- of the reset or of the response gives.
 use borrow.Author.Needs.{needs}
 use Rattle.slave_steps.proofs.advance.Statement.{statement}
 use Rattle.slave_steps.proofs.advance.Tie as tie
@@ -40,19 +42,29 @@ move-to-requires-3 : tie.Need-move-to-requires-3
 move-to-requires-3 c κs = search needs
 
 returns : tie.Need-returns
-returns c = simp (c .before .before .point .given .1, c .move-to .ensures)
+returns c =
+    let at-point = c .before .before in
+    simp (at-point .point .given .1, c .move-to .ensures)
 
 returns-2 : tie.Need-returns-2
-returns-2 c = simp (c .before .before .point2 .given .1, c .configure .ensures)
+returns-2 c =
+    let at-point2 = c .before .before in
+    simp (at-point2 .point2 .given .1, c .configure .ensures)
 
 returns-3 : tie.Need-returns-3
-returns-3 c = simp (c .before .before .before .point3 .given .1, c .before .advance .ensures, c .move-to2 .ensures)
+returns-3 c =
+    let at-point3 = c .before .before .before in
+    simp (at-point3 .point3 .given .1, c .before .advance .ensures, c .move-to2 .ensures)
 
 returns-4 : tie.Need-returns-4
-returns-4 c = simp (c .before .before .point4 .given .1, c .advance-listen .ensures)
+returns-4 c =
+    let at-point4 = c .before .before in
+    simp (at-point4 .point4 .given .1, c .advance-listen .ensures)
 
 returns-5 : tie.Need-returns-5
-returns-5 c = simp (c .before .before .before .point5 .given .1, c .before .advance2 .ensures, c .move-to3 .ensures)
+returns-5 c =
+    let at-point5 = c .before .before .before in
+    simp (at-point5 .point5 .given .1, c .before .advance2 .ensures, c .move-to3 .ensures)
 
 pub advance-spec : {M : Type 1} → statement M
 advance-spec =

@@ -1,4 +1,6 @@
--- `slave_steps::next_access` meets its contract.
+-- `next_access`: the match on the point decides, as in `next-at`: a refusal and the block reset are
+-- constants, and the three other points are the contracts of the `next` of the reset, of `listen` and of a
+-- response.
 use borrow.Author.Needs.{needs}
 use Rattle.slave_steps.proofs.next_access.Statement.{statement}
 use Rattle.slave_steps.proofs.next_access.Tie as tie
@@ -34,13 +36,19 @@ returns-2 : tie.Need-returns-2
 returns-2 c = simp (c .enum-told .given .1)
 
 returns-3 : tie.Need-returns-3
-returns-3 c = simp (c .before .before .point2 .given .1, c .next .ensures)
+returns-3 c =
+    let at-point2 = c .before .before in
+    simp (at-point2 .point2 .given .1, c .next .ensures)
 
 returns-4 : tie.Need-returns-4
-returns-4 c = simp (c .before .before .point3 .given .1, c .next2 .ensures)
+returns-4 c =
+    let at-point3 = c .before .before in
+    simp (at-point3 .point3 .given .1, c .next2 .ensures)
 
 returns-5 : tie.Need-returns-5
-returns-5 c = simp (c .before .before .point4 .given .1, c .next3 .ensures)
+returns-5 c =
+    let at-point4 = c .before .before in
+    simp (at-point4 .point4 .given .1, c .next3 .ensures)
 
 pub next-access-spec : {M : Type 1} → statement M
 next-access-spec =

@@ -20,7 +20,9 @@ at-requires-2 : tie.Need-at-requires-2
 at-requires-2 c κs = search needs
 
 returns-2 : tie.Need-returns-2
-returns-2 c = simp (le-ltb _ _ (c .before .before .if1 .left), c .before .listen-point .ensures, c .at2 .ensures)
+returns-2 c =
+    let at-if1 = c .before .before in
+    simp (le-ltb _ _ (at-if1 .if1 .left), c .before .listen-point .ensures, c .at2 .ensures)
 
 pub start-listen-spec : {M : Type 1} → statement M
 start-listen-spec =

@@ -17,13 +17,17 @@ at-requires-2 : tie.Need-at-requires-2
 at-requires-2 c κs = search needs
 
 returns-2 : tie.Need-returns-2
-returns-2 c = simp (le-ltb _ _ (c .before .before .if1 .left), eq-eqb _ _ (c .before .if2 .taken), c .at2 .ensures)
+returns-2 c =
+    let at-if1 = c .before .before in
+    simp (le-ltb _ _ (at-if1 .if1 .left), eq-eqb _ _ (c .before .if2 .taken), c .at2 .ensures)
 
 at-requires-3 : tie.Need-at-requires-3
 at-requires-3 c κs = search needs
 
 returns-3 : tie.Need-returns-3
-returns-3 c = simp (le-ltb _ _ (c .before .before .if1 .left), ne-eqb _ _ (c .before .if2 .left), c .at3 .ensures)
+returns-3 c =
+    let at-if1 = c .before .before in
+    simp (le-ltb _ _ (at-if1 .if1 .left), ne-eqb _ _ (c .before .if2 .left), c .at3 .ensures)
 
 pub start-respond-spec : {M : Type 1} → statement M
 start-respond-spec =

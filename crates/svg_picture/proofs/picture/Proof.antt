@@ -1,7 +1,9 @@
--- `svg_picture::picture` meets its contract.
+-- `picture`: the four tests are those of the definition `picture`, in the same order, and each early return
+-- appends `nothing`; after them there is room, and `drawn-is` (proofs/Bridge.antt) says that the words
+-- `push_svg` draws from are the first 256 signs of the bus sequence.
 use native.Mathlib.Omega.{arith}
 use borrow.Author.Tests.{lt-ltb, le-ltb, eq-eqb, ne-eqb}
-use Rattle.frames_text.proofs.Appends.{nothing, within}
+use Rattle.text_hex.proofs.Appends.{nothing, within}
 use Rattle.svg_text.specs.Picture.{picture}
 use Rattle.svg_picture.proofs.Bridge.{drawn-is}
 use borrow.Author.Needs.{needs}
@@ -16,28 +18,57 @@ same-length c = search needs
 
 returns : tie.Need-returns
 unfolding picture
-returns c = rw (← c .before .before .before .bus-sequence .ensures .0, lt-ltb _ _ (c .if1 .taken)) (nothing _ _ _)
+returns c =
+    let at-bus-sequence = c .before .before .before in
+    rw (← at-bus-sequence .bus-sequence .ensures .0, lt-ltb _ _ (c .if1 .taken)) (nothing _ _ _)
 
 same-length-2 : tie.Need-same-length-2
 same-length-2 c = search needs
 
 returns-2 : tie.Need-returns-2
 unfolding picture
-returns-2 c = rw (← c .before .before .before .before .bus-sequence .ensures .0, le-ltb _ _ (c .before .if1 .left), ← c .before .before .before .before .bus-sequence .kept .1 .0, lt-ltb _ _ (c .if2 .taken)) (nothing _ _ _)
+returns-2 c =
+    let at-bus-sequence = c .before .before .before .before in
+    rw (
+      ← at-bus-sequence .bus-sequence .ensures .0,
+      le-ltb _ _ (c .before .if1 .left),
+      ← at-bus-sequence .bus-sequence .kept .1 .0,
+      lt-ltb _ _ (c .if2 .taken),
+    ) (nothing _ _ _)
 
 same-length-3 : tie.Need-same-length-3
 same-length-3 c = search needs
 
 returns-3 : tie.Need-returns-3
 unfolding picture
-returns-3 c = rw (← c .before .before .before .before .before .bus-sequence .ensures .0, le-ltb _ _ (c .before .before .if1 .left), ← c .before .before .before .before .before .bus-sequence .kept .1 .0, le-ltb _ _ (c .before .if2 .left), lt-ltb _ _ (c .if3 .taken)) (nothing _ _ _)
+returns-3 c =
+    let at-if1 = c .before .before in
+    let at-bus-sequence = at-if1 .before .before .before in
+    rw (
+      ← at-bus-sequence .bus-sequence .ensures .0,
+      le-ltb _ _ (at-if1 .if1 .left),
+      ← at-bus-sequence .bus-sequence .kept .1 .0,
+      le-ltb _ _ (c .before .if2 .left),
+      lt-ltb _ _ (c .if3 .taken),
+    ) (nothing _ _ _)
 
 same-length-4 : tie.Need-same-length-4
 same-length-4 c = search needs
 
 returns-4 : tie.Need-returns-4
 unfolding picture
-returns-4 c = rw (← c .before .before .before .before .before .before .bus-sequence .ensures .0, le-ltb _ _ (c .before .before .before .if1 .left), ← c .before .before .before .before .before .before .bus-sequence .kept .1 .0, le-ltb _ _ (c .before .before .if2 .left), le-ltb _ _ (c .before .if3 .left), eq-eqb _ _ (c .if4 .taken)) (nothing _ _ _)
+returns-4 c =
+    let at-if2 = c .before .before in
+    let at-if1 = at-if2 .before in
+    let at-bus-sequence = at-if1 .before .before .before in
+    rw (
+      ← at-bus-sequence .bus-sequence .ensures .0,
+      le-ltb _ _ (at-if1 .if1 .left),
+      ← at-bus-sequence .bus-sequence .kept .1 .0,
+      le-ltb _ _ (at-if2 .if2 .left),
+      le-ltb _ _ (c .before .if3 .left),
+      eq-eqb _ _ (c .if4 .taken),
+    ) (nothing _ _ _)
 
 drawn-requires : tie.Need-drawn-requires
 drawn-requires c κs = search needs
@@ -46,7 +77,10 @@ cast-push-svg : tie.Need-cast-push-svg
 cast-push-svg c = search needs
 
 push-svg-requires : tie.Need-push-svg-requires
-push-svg-requires c κs = (c .before .before .before .before .if3 .left, omega (arith, c .drawn .ensures .1, c .before .before .before .before .before .if2 .left), c .drawn .ensures .1)
+push-svg-requires c κs =
+    let at-if3 = c .before .before .before .before in
+    let at-if2 = at-if3 .before in
+    (at-if3 .if3 .left, omega (arith, c .drawn .ensures .1, at-if2 .if2 .left), c .drawn .ensures .1)
 
 same-length-5 : tie.Need-same-length-5
 same-length-5 c = search needs
@@ -56,7 +90,25 @@ same-length-6 c = search needs
 
 returns-5 : tie.Need-returns-5
 unfolding picture
-returns-5 c = rw (← c .before .before .before .before .before .before .before .before .before .before .before .before .bus-sequence .ensures .0, le-ltb _ _ (c .before .before .before .before .before .before .before .before .before .if1 .left), ← c .before .before .before .before .before .before .before .before .before .before .before .before .bus-sequence .kept .1 .0, le-ltb _ _ (c .before .before .before .before .before .before .before .before .if2 .left), le-ltb _ _ (c .before .before .before .before .before .before .before .if3 .left), ne-eqb _ _ (c .before .before .before .before .before .before .if4 .left), ← drawn-is _ _ (c .before .before .before .before .before .before .before .before .before .before .before .before .bus-sequence .ensures) (omega (arith, c .before .before .before .before .before .before .before .before .before .if1 .left, c .before .before .before .before .before .before .before .before .if2 .left)) (c .before .before .before .before .before .before .before .before .before .before .before .before .bus-sequence .kept .1 .0) (c .before .before .before .drawn .ensures .0)) (within _ (c .before .before .before .before .before .before .before .if3 .left) (c .before .before .push-svg .ensures))
+returns-5 c =
+    let at-push-svg = c .before .before in
+    let at-drawn = at-push-svg .before in
+    let at-if4 = at-drawn .before .before .before in
+    let at-if3 = at-if4 .before in
+    let at-if2 = at-if3 .before in
+    let at-if1 = at-if2 .before in
+    let at-bus-sequence = at-if1 .before .before .before in
+    rw (
+      ← at-bus-sequence .bus-sequence .ensures .0,
+      le-ltb _ _ (at-if1 .if1 .left),
+      ← at-bus-sequence .bus-sequence .kept .1 .0,
+      le-ltb _ _ (at-if2 .if2 .left),
+      le-ltb _ _ (at-if3 .if3 .left),
+      ne-eqb _ _ (at-if4 .if4 .left),
+      ← drawn-is _ _ (at-bus-sequence .bus-sequence .ensures)
+          (omega (arith, at-if1 .if1 .left, at-if2 .if2 .left)) (at-bus-sequence .bus-sequence .kept .1 .0)
+          (at-drawn .drawn .ensures .0),
+    ) (within _ (at-if3 .if3 .left) (at-push-svg .push-svg .ensures))
 
 pub picture-spec : {M : Type 1} → statement M
 picture-spec =

@@ -1,6 +1,7 @@
--- `svg_picture::push_note` meets its contract.
+-- `push_note`: the test n > 256 decides (`lt-ltb`, `le-ltb`): `then` joins the three texts and two numbers in
+-- the order of `note-text`, 73 bytes at most; else `nothing` is appended.
 use borrow.Author.Tests.{lt-ltb, le-ltb}
-use Rattle.frames_text.proofs.Appends.{nothing, then}
+use Rattle.text_hex.proofs.Appends.{nothing, then}
 use Rattle.svg_text.specs.Picture.{note-text}
 use borrow.Author.Needs.{needs}
 use Rattle.svg_picture.proofs.push_note.Statement.{statement}
@@ -35,7 +36,20 @@ same-length c = search needs
 
 returns : tie.Need-returns
 unfolding note-text
-returns c = rw (lt-ltb _ _ (c .before .before .before .before .before .before .before .before .before .before .before .before .before .before .before .before .before .before .before .before .before .before .before .if1 .taken)) (then (c .before .before .before .before .before .before .before .before .before .before .before .before .before .before .before .before .before .before .before .before .push-text .ensures) (then (c .before .before .before .before .before .before .before .before .before .before .before .before .before .before .before .before .push-number .ensures) (then (c .before .before .before .before .before .before .before .before .before .before .before .push-text2 .ensures) (then (c .before .before .before .before .before .before .before .push-number2 .ensures) (c .before .before .push-text3 .ensures)))))
+returns c =
+    let at-push-text3 = c .before .before in
+    let at-out4 = at-push-text3 .before .before .before .before in
+    let at-push-number2 = at-out4 .before in
+    let at-push-text2 = at-push-number2 .before .before .before .before in
+    let at-out2 = at-push-text2 .before .before .before .before in
+    let at-push-number = at-out2 .before in
+    let at-push-text = at-push-number .before .before .before .before in
+    let at-if1 = at-push-text .before .before .before in
+    rw (lt-ltb _ _ (at-if1 .if1 .taken))
+    (then (at-push-text .push-text .ensures)
+    (then (at-push-number .push-number .ensures)
+    (then (at-push-text2 .push-text2 .ensures)
+    (then (at-push-number2 .push-number2 .ensures) (at-push-text3 .push-text3 .ensures)))))
 
 returns-2 : tie.Need-returns-2
 unfolding note-text

@@ -1,7 +1,8 @@
--- `svg_picture::push_svg` meets its contract.
+-- `push_svg`: `then` joins head, signs, note and end in the order of `words-svg`, with y from `last_row`;
+-- with n ≤ 256 the four bounds add up to less than 53000, to which `within` widens them.
 use native.Mathlib.Omega.{arith}
-use Rattle.frames_text.proofs.Appends.{then, within}
-use Rattle.svg_text.specs.Drawn.{words-svg}
+use Rattle.text_hex.proofs.Appends.{then, within}
+use Rattle.svg_text.specs.inner.Drawn.{words-svg}
 use borrow.Author.Needs.{needs}
 use Rattle.svg_picture.proofs.push_svg.Statement.{statement}
 use Rattle.svg_picture.proofs.push_svg.Tie as tie
@@ -35,7 +36,19 @@ same-length c = search needs
 
 returns : tie.Need-returns
 unfolding words-svg
-returns c = rw (← c .before .before .before .before .before .before .before .before .before .before .before .before .before .before .before .before .before .last-row .ensures .0) (within 53000 (omega (arith, c .before .before .before .before .before .before .before .before .before .before .before .before .before .before .before .before .before .before .before .before .pre .2)) (then (c .before .before .before .before .before .before .before .before .before .before .before .before .before .before .before .push-head .ensures) (then (c .before .before .before .before .before .before .before .before .before .before .before .push-signs .ensures) (then (c .before .before .before .before .before .before .before .push-note .ensures) (c .before .before .push-text .ensures)))))
+returns c =
+    let at-push-text = c .before .before in
+    let at-out3 = at-push-text .before .before .before .before in
+    let at-push-note = at-out3 .before in
+    let at-push-signs = at-push-note .before .before .before .before in
+    let at-push-head = at-push-signs .before .before .before .before in
+    let at-last-row = at-push-head .before .before in
+    let at-start = at-last-row .before .before .before in
+    rw (← at-last-row .last-row .ensures .0)
+    (within 53000 (omega (arith, at-start .pre .2))
+    (then (at-push-head .push-head .ensures)
+    (then (at-push-signs .push-signs .ensures)
+    (then (at-push-note .push-note .ensures) (at-push-text .push-text .ensures)))))
 
 pub push-svg-spec : {M : Type 1} → statement M
 push-svg-spec =

@@ -1,5 +1,6 @@
--- `transfer_access::next_access` meets its contract.
-use Rattle.transfer.specs.Machine.{next-at}
+-- `next_access`: the match on the point decides, nine cases as in `next-at`; eight are the contract of the
+-- function for that kind of point, and `Finished` is its answer.
+use Rattle.transfer.specs.inner.Machine.{next-at}
 use borrow.Author.Needs.{needs}
 use Rattle.transfer_access.proofs.next_access.Statement.{statement}
 use Rattle.transfer_access.proofs.next_access.Tie as tie
@@ -57,35 +58,51 @@ enum-known-p-9 c = search needs
 
 returns : tie.Need-returns
 unfolding next-at
-returns c = simp (c .before .before .p .given .1, c .next-setup .ensures)
+returns c =
+    let at-p = c .before .before in
+    simp (at-p .p .given .1, c .next-setup .ensures)
 
 returns-2 : tie.Need-returns-2
 unfolding next-at
-returns-2 c = simp (c .before .before .p2 .given .1, c .next-abort .ensures)
+returns-2 c =
+    let at-p2 = c .before .before in
+    simp (at-p2 .p2 .given .1, c .next-abort .ensures)
 
 returns-3 : tie.Need-returns-3
 unfolding next-at
-returns-3 c = simp (c .before .before .p3 .given .1, c .next-read .ensures)
+returns-3 c =
+    let at-p3 = c .before .before in
+    simp (at-p3 .p3 .given .1, c .next-read .ensures)
 
 returns-4 : tie.Need-returns-4
 unfolding next-at
-returns-4 c = simp (c .before .before .p4 .given .1, c .next-write .ensures)
+returns-4 c =
+    let at-p4 = c .before .before in
+    simp (at-p4 .p4 .given .1, c .next-write .ensures)
 
 returns-5 : tie.Need-returns-5
 unfolding next-at
-returns-5 c = simp (c .before .before .p5 .given .1, c .next-round .ensures)
+returns-5 c =
+    let at-p5 = c .before .before in
+    simp (at-p5 .p5 .given .1, c .next-round .ensures)
 
 returns-6 : tie.Need-returns-6
 unfolding next-at
-returns-6 c = simp (c .before .before .p6 .given .1, c .next-fill .ensures)
+returns-6 c =
+    let at-p6 = c .before .before in
+    simp (at-p6 .p6 .given .1, c .next-fill .ensures)
 
 returns-7 : tie.Need-returns-7
 unfolding next-at
-returns-7 c = simp (c .before .before .p7 .given .1, c .next-wait .ensures)
+returns-7 c =
+    let at-p7 = c .before .before in
+    simp (at-p7 .p7 .given .1, c .next-wait .ensures)
 
 returns-8 : tie.Need-returns-8
 unfolding next-at
-returns-8 c = simp (c .before .before .p8 .given .1, c .next-stop .ensures)
+returns-8 c =
+    let at-p8 = c .before .before in
+    simp (at-p8 .p8 .given .1, c .next-stop .ensures)
 
 returns-9 : tie.Need-returns-9
 unfolding next-at

@@ -1,5 +1,6 @@
--- `transfer_access::store` meets its contract.
-use Rattle.transfer.specs.Machine.{store-at}
+-- `store`: the match on the point decides, nine cases as in `store-at`; `store_read` and `store_round` give
+-- those of the two reads, and the other seven store nothing.
+use Rattle.transfer.specs.inner.Machine.{store-at}
 use borrow.Author.Needs.{needs}
 use Rattle.transfer_access.proofs.store.Statement.{statement}
 use Rattle.transfer_access.proofs.store.Tie as tie
@@ -47,7 +48,9 @@ returns-2 c = search needs
 
 returns-3 : tie.Need-returns-3
 unfolding store-at
-returns-3 c = simp (c .before .before .p .given .1, c .store-read .ensures)
+returns-3 c =
+    let at-p = c .before .before in
+    simp (at-p .p .given .1, c .store-read .ensures)
 
 returns-4 : tie.Need-returns-4
 unfolding store-at
@@ -55,7 +58,9 @@ returns-4 c = search needs
 
 returns-5 : tie.Need-returns-5
 unfolding store-at
-returns-5 c = simp (c .before .before .p2 .given .1, c .store-round .ensures)
+returns-5 c =
+    let at-p2 = c .before .before in
+    simp (at-p2 .p2 .given .1, c .store-round .ensures)
 
 returns-6 : tie.Need-returns-6
 unfolding store-at

@@ -1,16 +1,18 @@
--- `transfer_run::step` meets its contract.
+-- `step`: `ahead_from` says how far the run came, `moved` is the transfer there, and the laws of
+-- proofs/Reach.antt say what one access more makes of it: it stops the run (`halts`, `ends`) or leads on
+-- (`goes`).
 use borrow.Author.Needs.{needs}
-use Rattle.transfer_run.proofs.step.Statement.{statement}
-use Rattle.transfer_run.proofs.step.Tie as tie
 use native.Mathlib.Omega.{arith}
 use denote.Ref.{now}
-use Rattle.runs.proofs.Reach.{ends, halts, goes, has-more}
+use Rattle.regs_runs.proofs.Reach.{ends, halts, goes, has-more}
+use Rattle.transfer_run.proofs.step.Statement.{statement}
+use Rattle.transfer_run.proofs.step.Tie as tie
 
 ahead-from-requires : tie.Need-ahead-from-requires
-ahead-from-requires c κs = c .before .before .before .before .before .before .before .before .pre
+ahead-from-requires c κs = search needs
 
-at-point-requires : tie.Need-at-point-requires
-at-point-requires c κs = search needs
+moved-requires : tie.Need-moved-requires
+moved-requires c κs = search needs
 
 next-access-requires : tie.Need-next-access-requires
 next-access-requires c κs = search needs
@@ -34,7 +36,25 @@ advance-requires : tie.Need-advance-requires
 advance-requires c κs = search needs
 
 add-t33 : tie.Need-add-t33
-add-t33 c = omega (arith, has-more (rw (← c .before .before .before .before .before .before .before .before .before .before .before .before .before .before .at-point .ensures) at (c .before .before .before .before .before .before .before .before .before .before .before .before .before .before .before .before .before .before .before .ahead-from .ensures .reaches (now (c .before .before .before .before .before .before .before .before .before .before .before .before .before .before .before .before .before .before .before .before .before .before .before .before .before .before .before .before .args .kinds)) (now (c .before .before .before .before .before .before .before .before .before .before .before .before .before .before .before .before .before .before .before .before .before .before .before .before .before .before .before .before .args .lengths)))) (c .before .before .before .before .before .before .before .before .before .before .before .before .before .next-access .ensures) (c .before .before .before .before .before .before .before .before .before .before .before .perform .ensures) (c .before .before .before .before .before .before .before .v .given .1), c .before .before .before .before .before .before .before .before .before .before .before .before .before .before .before .before .before .before .before .before .before .before .before .before .before .before .before .before .good .1 .1 .1 .1 .1 .1 .0)
+add-t33 c =
+    let at-store = c .before .before .before .before in
+    let at-v = at-store .before .before .before in
+    let at-perform = at-v .before .before .before .before in
+    let at-next-access = at-perform .before .before in
+    let at-moved = at-next-access .before in
+    let at-log = at-moved .before .before .before .before in
+    let at-ahead-from = at-log .before in
+    let at-ahead-from-arg = at-ahead-from .before .before in
+    let at-shared-slice-known3 = at-ahead-from-arg .before .before .before .before in
+    let at-start = at-shared-slice-known3 .before .before .before in
+    let args = at-start .args in
+    let g = rw (← at-moved .moved .ensures)
+    at (at-ahead-from .ahead-from .ensures .reaches (now (args .kinds)) (now (args .lengths))) in
+    omega (
+      arith,
+      has-more g (at-next-access .next-access .ensures) (at-perform .perform .ensures) (at-v .v .given .1),
+      at-start .good .1 .1 .1 .1 .1 .1 .0,
+    )
 
 same-length : tie.Need-same-length
 same-length c = search needs
@@ -43,23 +63,61 @@ same-length-2 : tie.Need-same-length-2
 same-length-2 c = search needs
 
 returns : tie.Need-returns
-returns c = ends (rw (← c .before .before .before .before .before .before .before .before .at-point .ensures) at (c .before .before .before .before .before .before .before .before .before .before .before .before .before .ahead-from .ensures .reaches (now (c .before .before .before .before .before .before .before .before .before .before .before .before .before .before .before .before .before .before .before .before .before .before .args .kinds)) (now (c .before .before .before .before .before .before .before .before .before .before .before .before .before .before .before .before .before .before .before .before .before .before .args .lengths)))) (halts (rw (← c .before .before .before .before .before .before .before .before .at-point .ensures) at (c .before .before .before .before .before .before .before .before .before .before .before .before .before .ahead-from .ensures .reaches (now (c .before .before .before .before .before .before .before .before .before .before .before .before .before .before .before .before .before .before .before .before .before .before .args .kinds)) (now (c .before .before .before .before .before .before .before .before .before .before .before .before .before .before .before .before .before .before .before .before .before .before .args .lengths)))) (c .before .before .before .before .before .before .before .next-access .ensures) (c .before .before .before .before .before .perform .ensures) (c .before .r .given .1))
+returns c =
+    let at-log2 = c .before .before .before .before in
+    let at-perform = at-log2 .before in
+    let at-next-access = at-perform .before .before in
+    let at-moved = at-next-access .before in
+    let at-log = at-moved .before .before .before .before in
+    let at-ahead-from = at-log .before in
+    let at-ahead-from-arg = at-ahead-from .before .before in
+    let at-shared-slice-known3 = at-ahead-from-arg .before .before .before .before in
+    let at-start = at-shared-slice-known3 .before .before .before in
+    let args = at-start .args in
+    let g = rw (← at-moved .moved .ensures)
+    at (at-ahead-from .ahead-from .ensures .reaches (now (args .kinds)) (now (args .lengths))) in
+    ends g
+    (halts g (at-next-access .next-access .ensures) (at-perform .perform .ensures) (c .before .r .given .1))
 
 same-length-3 : tie.Need-same-length-3
-same-length-3 c = omega (arith, c .before .before .before .before .before .before .before .before .before .before .before .before .before .before .before .before .before .before .before .ahead-from .kept .1 .1 .1 .1 .0, c .before .before .before .before .before .before .before .before .before .before .before .perform .kept .1 .1 .1 .0)
+same-length-3 c =
+    let at-store = c .before .before .before .before in
+    let at-match = at-store .before .before .before .before in
+    let at-perform = at-match .before .before .before in
+    let at-slice-known4 = at-perform .before .before .before .before in
+    let at-ahead-from = at-slice-known4 .before .before .before .before in
+    omega (arith, at-ahead-from .ahead-from .kept .1 .1 .1 .1 .0, at-perform .perform .kept .1 .1 .1 .0)
 
 same-length-4 : tie.Need-same-length-4
 same-length-4 c = search needs
 
 returns-2 : tie.Need-returns-2
-returns-2 c = let g = (rw (← c .before .before .before .before .before .before .before .before .before .before .before .before .before .before .at-point .ensures) at (c .before .before .before .before .before .before .before .before .before .before .before .before .before .before .before .before .before .before .before .ahead-from .ensures .reaches (now (c .before .before .before .before .before .before .before .before .before .before .before .before .before .before .before .before .before .before .before .before .before .before .before .before .before .before .before .before .args .kinds)) (now (c .before .before .before .before .before .before .before .before .before .before .before .before .before .before .before .before .before .before .before .before .before .before .before .before .before .before .before .before .args .lengths)))) in (goes g (c .before .before .before .before .before .before .before .before .before .before .before .before .before .next-access .ensures) (c .before .before .before .before .before .before .before .before .before .before .before .perform .ensures) (c .before .before .before .before .before .before .before .v .given .1) (c .before .before .before .before .store .ensures) (c .before .before .before .keep .ensures) (c .advance .ensures), omega (arith, g .up))
+returns-2 c =
+    let at-keep = c .before .before .before in
+    let at-store = at-keep .before in
+    let at-v = at-store .before .before .before in
+    let at-perform = at-v .before .before .before .before in
+    let at-next-access = at-perform .before .before in
+    let at-moved = at-next-access .before in
+    let at-log = at-moved .before .before .before .before in
+    let at-ahead-from = at-log .before in
+    let at-ahead-from-arg = at-ahead-from .before .before in
+    let at-shared-slice-known3 = at-ahead-from-arg .before .before .before .before in
+    let at-start = at-shared-slice-known3 .before .before .before in
+    let args = at-start .args in
+    let g = rw (← at-moved .moved .ensures)
+    at (at-ahead-from .ahead-from .ensures .reaches (now (args .kinds)) (now (args .lengths))) in (
+      goes g (at-next-access .next-access .ensures) (at-perform .perform .ensures) (at-v .v .given .1)
+          (at-store .store .ensures) (at-keep .keep .ensures) (c .advance .ensures),
+      omega (arith, g .up),
+    )
 
 pub step-spec : {M : Type 1} → statement M
 step-spec =
     tie.close
     (tie.spec
     ahead-from-requires
-    at-point-requires
+    moved-requires
     next-access-requires
     perform-requires
     enum-known-r

@@ -1,5 +1,5 @@
 -- `transfer_steps::begin` meets its contract.
-use Rattle.transfer.specs.Machine.{begun}
+use Rattle.transfer.specs.inner.Machine.{begun}
 use borrow.Author.Tests.{le-ltb, lt-ltb}
 use borrow.Author.Needs.{needs}
 use Rattle.transfer_steps.proofs.begin.Statement.{statement}
@@ -22,7 +22,15 @@ at-point-requires c κs = search needs
 
 returns : tie.Need-returns
 unfolding begun
-returns c = simp (lt-ltb _ _ (c .before .before .before .if1 .taken), c .before .before .kind-at .ensures, c .before .length-at .ensures, c .«open» .ensures)
+returns c =
+    let at-kind-at = c .before .before in
+    let at-if1 = at-kind-at .before in
+    simp (
+      lt-ltb _ _ (at-if1 .if1 .taken),
+      at-kind-at .kind-at .ensures,
+      c .before .length-at .ensures,
+      c .«open» .ensures,
+    )
 
 returns-2 : tie.Need-returns-2
 unfolding begun

@@ -1,5 +1,5 @@
 -- `transfer_steps::first_of` meets its contract.
-use Rattle.transfer.specs.Machine.{first-point}
+use Rattle.transfer.specs.inner.Machine.{first-point}
 use borrow.Author.Needs.{needs}
 use Rattle.transfer_steps.proofs.first_of.Statement.{statement}
 use Rattle.transfer_steps.proofs.first_of.Tie as tie
@@ -26,7 +26,9 @@ returns-2 c = simp (c .if1 .taken, c .before .enum-told2 .given .1)
 
 returns-3 : tie.Need-returns-3
 unfolding first-point
-returns-3 c = simp (c .before .if1 .left, c .before .before .enum-told2 .given .1, c .tested2 .ensures)
+returns-3 c =
+    let at-enum-told2 = c .before .before in
+    simp (c .before .if1 .left, at-enum-told2 .enum-told2 .given .1, c .tested2 .ensures)
 
 pub first-of-spec : {M : Type 1} → statement M
 first-of-spec =

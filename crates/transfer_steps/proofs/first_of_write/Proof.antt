@@ -1,5 +1,5 @@
 -- `transfer_steps::first_of_write` meets its contract.
-use Rattle.transfer.specs.Machine.{write-point}
+use Rattle.transfer.specs.inner.Machine.{write-point}
 use borrow.Author.Tests.{eq-eqb, ne-eqb}
 use borrow.Author.Needs.{needs}
 use Rattle.transfer_steps.proofs.first_of_write.Statement.{statement}

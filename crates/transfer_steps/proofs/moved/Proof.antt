@@ -16,7 +16,9 @@ begin-requires : tie.Need-begin-requires
 begin-requires c κs = search needs
 
 returns : tie.Need-returns
-returns c = simp (c .before .before .s .given .1, c .at-point .ensures)
+returns c =
+    let at-s = c .before .before in
+    simp (at-s .s .given .1, c .at-point .ensures)
 
 returns-2 : tie.Need-returns-2
 returns-2 c = simp (c .before .enum-told .given .1, c .begin .ensures)

@@ -1,5 +1,5 @@
 -- `transfer_steps::open` meets its contract.
-use Rattle.transfer.specs.Machine.{opened}
+use Rattle.transfer.specs.inner.Machine.{opened}
 use borrow.Author.Tests.{eq-eqb, ne-eqb}
 use borrow.Author.Needs.{needs}
 use Rattle.transfer_steps.proofs.open.Statement.{statement}

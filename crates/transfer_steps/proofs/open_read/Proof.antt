@@ -1,5 +1,5 @@
 -- `transfer_steps::open_read` meets its contract.
-use Rattle.transfer.specs.Machine.{opened-read}
+use Rattle.transfer.specs.inner.Machine.{opened-read}
 use borrow.Author.Needs.{needs}
 use Rattle.transfer_steps.proofs.open_read.Statement.{statement}
 use Rattle.transfer_steps.proofs.open_read.Tie as tie

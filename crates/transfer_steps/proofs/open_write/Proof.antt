@@ -1,5 +1,5 @@
 -- `transfer_steps::open_write` meets its contract.
-use Rattle.transfer.specs.Machine.{opened-write}
+use Rattle.transfer.specs.inner.Machine.{opened-write}
 use borrow.Author.Needs.{needs}
 use Rattle.transfer_steps.proofs.open_write.Statement.{statement}
 use Rattle.transfer_steps.proofs.open_write.Tie as tie

@@ -1,5 +1,5 @@
 -- `transfer_steps::tested` meets its contract.
-use Rattle.transfer.specs.Machine.{tested-point}
+use Rattle.transfer.specs.inner.Machine.{tested-point}
 use borrow.Author.Tests.{le-ltb, lt-ltb}
 use Rattle.transfer_steps.proofs.tested.Statement.{statement}
 use Rattle.transfer_steps.proofs.tested.Tie as tie

@@ -14,7 +14,9 @@ returns : tie.Need-returns
 returns c = simp (sym (c .before .has-stop .ensures) ∙ c .if1 .taken)
 
 returns-2 : tie.Need-returns-2
-returns-2 c = simp (sym (c .before .before .has-stop .ensures) ∙ c .before .if1 .left, c .of .ensures)
+returns-2 c =
+    let at-has-stop = c .before .before in
+    simp (sym (at-has-stop .has-stop .ensures) ∙ c .before .if1 .left, c .of .ensures)
 
 pub applied-spec : {M : Type 1} → statement M
 applied-spec = tie.close (tie.spec has-stop-requires of-requires returns returns-2)

@@ -17,10 +17,14 @@ returns : tie.Need-returns
 returns c = search needs
 
 returns-2 : tie.Need-returns-2
-returns-2 c = simp (c .before .before .before .self .given .1, sym (c .before .goes-on .ensures) ∙ c .if1 .taken)
+returns-2 c =
+    let at-self = c .before .before .before in
+    simp (at-self .self .given .1, sym (c .before .goes-on .ensures) ∙ c .if1 .taken)
 
 returns-3 : tie.Need-returns-3
-returns-3 c = simp (c .before .before .before .self .given .1, sym (c .before .goes-on .ensures) ∙ c .if1 .left)
+returns-3 c =
+    let at-self = c .before .before .before in
+    simp (at-self .self .given .1, sym (c .before .goes-on .ensures) ∙ c .if1 .left)
 
 pub opens-spec : {M : Type 1} → statement M
 opens-spec =

@@ -1,4 +1,6 @@
--- `bus::Bus::put` meets its contract.
+-- `Bus::put`: `word-put` of proofs/Sequence.antt joins the three stores (opening, byte, closing), each given
+-- by its callee's contract, to the signs of the whole word. `opening-short` bounds the opening by 2 places,
+-- so `first + 1` and the place of the closing do not overflow.
 use native.Mathlib.Omega.{arith}
 use Rattle.bus.proofs.Sequence.{word-put, opening-short}
 use borrow.Author.Needs.{needs}
@@ -21,13 +23,34 @@ put-requires-2 : tie.Need-put-requires-2
 put-requires-2 c κs = search needs
 
 add-put-closing : tie.Need-add-put-closing
-add-put-closing c = omega (arith, opening-short (c .before .before .before .before .before .before .before .before .before .before .opens .result) (c .before .before .before .before .before .before .before .before .before .before .before .before .before .args .address) (c .before .before .before .before .before .before .before .before .before .before .before .of .result), c .before .before .before .before .before .before .before .before .put .ensures)
+add-put-closing c =
+    let at-byte = c .before .before .before .before in
+    let at-put = at-byte .before .before .before .before in
+    let at-opens = at-put .before .before in
+    let at-of = at-opens .before in
+    let at-start = at-of .before .before in
+    omega (
+      arith,
+      opening-short (at-opens .opens .result) (at-start .args .address) (at-of .of .result),
+      at-put .put .ensures,
+    )
 
 has-stop-requires : tie.Need-has-stop-requires
 has-stop-requires c κs = search needs
 
 put-closing-requires : tie.Need-put-closing-requires
-put-closing-requires c κs = omega (arith, opening-short (c .before .before .before .before .before .before .before .before .before .before .before .opens .result) (c .before .before .before .before .before .before .before .before .before .before .before .before .before .before .args .address) (c .before .before .before .before .before .before .before .before .before .before .before .before .of .result), c .before .before .before .before .before .before .before .before .before .put .ensures)
+put-closing-requires c κs =
+    let at-put2 = c .before .before .before .before in
+    let at-out = at-put2 .before .before .before .before in
+    let at-put = at-out .before in
+    let at-opens = at-put .before .before in
+    let at-of = at-opens .before in
+    let at-start = at-of .before .before in
+    omega (
+      arith,
+      opening-short (at-opens .opens .result) (at-start .args .address) (at-of .of .result),
+      at-put .put .ensures,
+    )
 
 applied-requires : tie.Need-applied-requires
 applied-requires c κs = search needs
@@ -36,7 +59,20 @@ same-length : tie.Need-same-length
 same-length c = search needs
 
 returns : tie.Need-returns
-returns c = let p = word-put (c .before .before .before .before .before .before .before .before .before .before .before .before .before .before .before .before .before .before .args .self) (c .before .before .before .before .before .before .before .before .before .before .before .before .before .before .before .before .before .before .args .address) (c .before .before .before .before .before .before .before .before .before .before .before .before .before .before .before .before .before .before .args .w) (c .before .before .before .before .before .before .before .before .before .before .before .before .before .before .before .before .before .before .args .at) (c .before .before .before .before .before .before .before .before .before .before .before .before .before .before .before .before .before .before .args .out .now) (c .before .before .before .before .before .before .before .before .before .before .before .before .before .before .before .before .of .ensures) (c .before .before .before .before .before .before .before .before .before .before .before .before .before .before .before .opens .ensures) (c .before .before .before .before .before .before .before .before .before .before .before .before .before .put .ensures) (c .before .before .before .before .before .before .before .before .before .byte .ensures) (c .before .before .before .before .before .before .before .before .put2 .ensures) (c .before .before .before .before .has-stop .ensures) (c .before .before .before .put-closing .ensures) in (c .applied .ensures, p .0, p .1)
+returns c =
+    let at-put-closing = c .before .before .before in
+    let at-has-stop = at-put-closing .before in
+    let at-put2 = at-has-stop .before .before .before .before in
+    let at-byte = at-put2 .before in
+    let at-put = at-byte .before .before .before .before in
+    let at-opens = at-put .before .before in
+    let at-of = at-opens .before in
+    let at-start = at-of .before .before in
+    let p = word-put (at-start .args .self) (at-start .args .address) (at-start .args .w) (at-start .args .at)
+    (at-start .args .out .now) (at-of .of .ensures) (at-opens .opens .ensures) (at-put .put .ensures)
+    (at-byte .byte .ensures) (at-put2 .put2 .ensures) (at-has-stop .has-stop .ensures)
+    (at-put-closing .put-closing .ensures) in
+    (c .applied .ensures, p .0, p .1)
 
 pub put-spec : {M : Type 1} → statement M
 put-spec =

@@ -19,7 +19,9 @@ enum-told-2 : tie.Need-enum-told-2
 enum-told-2 c = search needs
 
 returns : tie.Need-returns
-returns c = simp (c .before .before .enum-told .given .1, c .before .byte-of .ensures, c .wide .ensures)
+returns c =
+    let at-enum-told = c .before .before in
+    simp (at-enum-told .enum-told .given .1, c .before .byte-of .ensures, c .wide .ensures)
 
 returns-2 : tie.Need-returns-2
 returns-2 c = search needs

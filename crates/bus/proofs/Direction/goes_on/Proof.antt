@@ -13,7 +13,9 @@ has-restart-requires : tie.Need-has-restart-requires
 has-restart-requires c κs = search needs
 
 returns : tie.Need-returns
-returns c = simp (c .before .before .of .ensures, c .before .is .ensures, c .has-restart .ensures)
+returns c =
+    let at-of = c .before .before in
+    simp (at-of .of .ensures, c .before .is .ensures, c .has-restart .ensures)
 
 pub goes-on-spec : {M : Type 1} → statement M
 goes-on-spec = tie.close (tie.spec of-requires is-requires has-restart-requires returns)

@@ -19,7 +19,10 @@ same-length : tie.Need-same-length
 same-length c = search needs
 
 returns-2 : tie.Need-returns-2
-returns-2 c = rw (c .before .before .before .before .before .word .given .1) (c .before .before .put .ensures)
+returns-2 c =
+    let at-put = c .before .before in
+    let at-word = at-put .before .before .before in
+    rw (at-word .word .given .1) (at-put .put .ensures)
 
 pub put-spec : {M : Type 1} → statement M
 put-spec =

@@ -1,5 +1,5 @@
 -- `explain_bus::kept::put` meets its contract.
-use Rattle.frames_text.proofs.Appends.{one}
+use Rattle.text_hex.proofs.Appends.{one}
 use borrow.Author.Needs.{needs}
 use Rattle.explain_bus.proofs.kept.put.Statement.{statement}
 use Rattle.explain_bus.proofs.kept.put.Tie as tie

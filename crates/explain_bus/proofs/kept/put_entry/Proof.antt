@@ -1,5 +1,5 @@
 -- `explain_bus::kept::put_entry` meets its contract.
-use Rattle.frames_text.proofs.Appends.{then}
+use Rattle.text_hex.proofs.Appends.{then}
 use borrow.Author.Needs.{needs}
 use Rattle.explain_bus.proofs.kept.put_entry.Statement.{statement}
 use Rattle.explain_bus.proofs.kept.put_entry.Tie as tie
@@ -17,7 +17,10 @@ same-length : tie.Need-same-length
 same-length c = search needs
 
 returns : tie.Need-returns
-returns c = then (c .before .before .before .before .before .before .put .ensures) (c .before .before .put2 .ensures)
+returns c =
+    let at-put2 = c .before .before in
+    let at-put = at-put2 .before .before .before .before in
+    then (at-put .put .ensures) (at-put2 .put2 .ensures)
 
 pub put-entry-spec : {M : Type 1} → statement M
 put-entry-spec = tie.close (tie.spec add-put put-requires put-requires-2 same-length returns)

@@ -1,6 +1,6 @@
 -- `explain_bus::kept::put_write` meets its contract.
 use borrow.Author.Tests.{eq-eqb, ne-eqb}
-use Rattle.frames_text.proofs.Appends.{nothing}
+use Rattle.text_hex.proofs.Appends.{nothing}
 use borrow.Author.Needs.{needs}
 use Rattle.explain_bus.proofs.kept.put_write.Statement.{statement}
 use Rattle.explain_bus.proofs.kept.put_write.Tie as tie
@@ -15,7 +15,11 @@ same-length : tie.Need-same-length
 same-length c = search needs
 
 returns : tie.Need-returns
-returns c = rw (eq-eqb _ _ (c .before .before .before .before .before .if1 .taken), eq-eqb _ _ (c .before .before .before .before .if2 .taken)) (c .before .before .put-entry .ensures)
+returns c =
+    let at-put-entry = c .before .before in
+    let at-if2 = at-put-entry .before .before in
+    let at-if1 = at-if2 .before in
+    rw (eq-eqb _ _ (at-if1 .if1 .taken), eq-eqb _ _ (at-if2 .if2 .taken)) (at-put-entry .put-entry .ensures)
 
 returns-2 : tie.Need-returns-2
 returns-2 c = rw (eq-eqb _ _ (c .before .if1 .taken), ne-eqb _ _ (c .if2 .left)) (nothing _ _ _)
@@ -27,7 +31,10 @@ same-length-2 : tie.Need-same-length-2
 same-length-2 c = search needs
 
 returns-3 : tie.Need-returns-3
-returns-3 c = rw (ne-eqb _ _ (c .before .before .before .before .if1 .left)) (c .before .before .put-entry2 .ensures)
+returns-3 c =
+    let at-put-entry2 = c .before .before in
+    let at-if1 = at-put-entry2 .before .before in
+    rw (ne-eqb _ _ (at-if1 .if1 .left)) (at-put-entry2 .put-entry2 .ensures)
 
 pub put-write-spec : {M : Type 1} → statement M
 put-write-spec =

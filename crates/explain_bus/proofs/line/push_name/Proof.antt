@@ -15,7 +15,9 @@ same-length c = search needs
 
 returns : tie.Need-returns
 unfolding signs-table
-returns c = c .before .before .push-cell .ensures
+returns c =
+    let at-push-cell = c .before .before in
+    at-push-cell .push-cell .ensures
 
 pub push-name-spec : {M : Type 1} → statement M
 push-name-spec =

@@ -1,7 +1,8 @@
--- `explain_bus::line::push_run` meets its contract.
+-- `push_run`: a run of 0 pushes nothing; else `then` joins space, bracket, digits and bracket, at most 8
+-- bytes with the 5 digits, which is at most 8 * run since run is not 0.
 use native.Mathlib.Omega.{arith}
 use borrow.Author.Tests.{eq-eqb, ne-eqb}
-use Rattle.frames_text.proofs.Appends.{nothing, then, within}
+use Rattle.text_hex.proofs.Appends.{nothing, then, within}
 use Rattle.explain_bus.specs.Line.{run-text}
 use borrow.Author.Needs.{needs}
 use Rattle.explain_bus.proofs.line.push_run.Statement.{statement}
@@ -28,7 +29,17 @@ same-length c = search needs
 
 returns-2 : tie.Need-returns-2
 unfolding run-text
-returns-2 c = rw (ne-eqb _ _ (c .before .before .before .before .before .before .before .before .before .before .before .before .before .before .before .before .if1 .left)) (within _ (omega (arith, c .before .before .before .before .before .before .before .before .before .before .before .before .before .before .before .before .if1 .left)) (then (c .before .before .before .before .before .before .before .before .before .before .before .before .before .before .push .ensures) (then (c .before .before .before .before .before .before .before .before .before .before .push2 .ensures) (then (c .before .before .before .before .before .before .push-digits .ensures) (c .before .before .push3 .ensures)))))
+returns-2 c =
+    let at-push3 = c .before .before in
+    let at-push-digits = at-push3 .before .before .before .before in
+    let at-push2 = at-push-digits .before .before .before .before in
+    let at-push = at-push2 .before .before .before .before in
+    let at-if1 = at-push .before .before in
+    rw (ne-eqb _ _ (at-if1 .if1 .left))
+    (within _ (omega (arith, at-if1 .if1 .left))
+    (then (at-push .push .ensures)
+    (then (at-push2 .push2 .ensures)
+    (then (at-push-digits .push-digits .ensures) (at-push3 .push3 .ensures)))))
 
 pub push-run-spec : {M : Type 1} → statement M
 push-run-spec =

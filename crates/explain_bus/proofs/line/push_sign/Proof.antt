@@ -1,6 +1,6 @@
 -- `explain_bus::line::push_sign` meets its contract.
-use Rattle.frames_text.proofs.Appends.{then}
-use Rattle.explain_bus.specs.Words.{word-text}
+use Rattle.text_hex.proofs.Appends.{then}
+use Rattle.explain_bus.specs.inner.Words.{word-text}
 use borrow.Author.Needs.{needs}
 use Rattle.explain_bus.proofs.line.push_sign.Statement.{statement}
 use Rattle.explain_bus.proofs.line.push_sign.Tie as tie
@@ -16,7 +16,10 @@ same-length c = search needs
 
 returns : tie.Need-returns
 unfolding word-text
-returns c = then (c .before .before .before .before .before .before .push-run .ensures) (c .before .before .push-kind .ensures)
+returns c =
+    let at-push-kind = c .before .before in
+    let at-push-run = at-push-kind .before .before .before .before in
+    then (at-push-run .push-run .ensures) (at-push-kind .push-kind .ensures)
 
 pub push-sign-spec : {M : Type 1} → statement M
 push-sign-spec = tie.close (tie.spec push-run-requires push-kind-requires same-length returns)

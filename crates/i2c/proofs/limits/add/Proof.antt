@@ -1,5 +1,6 @@
--- `i2c::limits::add` meets its contract.
-use Rattle.i2c.specs.Limits.{add-total}
+-- `add`: the variant of t and the tests on kind 1 and 0 select the case of `add-total`. `Small t k`, sums at
+-- most 65535 * k, with k at most 64 excludes overflow, and with n at most 65535 gives `Small` for k + 1.
+use Rattle.i2c.specs.inner.Limits.{add-total}
 use native.Mathlib.Omega.{arith}
 use borrow.Author.Tests.{eq-eqb, ne-eqb}
 use borrow.Author.Needs.{needs}
@@ -10,25 +11,47 @@ enum-known-t : tie.Need-enum-known-t
 enum-known-t c = search needs
 
 add-t9 : tie.Need-add-t9
-add-t9 c = let s = rw (c .before .before .t .given .1) at (c .before .before .before .before .pre .0) in omega (arith, s .0, c .before .before .before .before .pre)
+add-t9 c =
+    let at-t = c .before .before in
+    let at-start = at-t .before .before in
+    let s = rw (at-t .t .given .1) at (at-start .pre .0) in
+    omega (arith, s .0, at-start .pre)
 
 returns : tie.Need-returns
 unfolding add-total
-returns c = let s = rw (c .before .before .t .given .1) at (c .before .before .before .before .pre .0) in (rw (c .before .before .t .given .1, eq-eqb _ _ (c .if1 .taken)), (omega (arith, s .0, c .before .before .before .before .pre), omega (arith, s .1)))
+returns c =
+    let at-t = c .before .before in
+    let at-start = at-t .before .before in
+    let s = rw (at-t .t .given .1) at (at-start .pre .0) in (
+      rw (at-t .t .given .1, eq-eqb _ _ (c .if1 .taken)),
+      (omega (arith, s .0, at-start .pre), omega (arith, s .1)),
+    )
 
 add-t10 : tie.Need-add-t10
-add-t10 c = let s = rw (c .before .before .before .t .given .1) at (c .before .before .before .before .before .pre .0) in omega (arith, s .1, c .before .before .before .before .before .pre)
+add-t10 c =
+    let at-t = c .before .before .before in
+    let at-start = at-t .before .before in
+    let s = rw (at-t .t .given .1) at (at-start .pre .0) in
+    omega (arith, s .1, at-start .pre)
 
 returns-2 : tie.Need-returns-2
 unfolding add-total
-returns-2 c = let s = rw (c .before .before .before .t .given .1) at (c .before .before .before .before .before .pre .0) in (rw (c .before .before .before .t .given .1, ne-eqb _ _ (c .before .if1 .left), eq-eqb _ _ (c .if2 .taken)), (omega (arith, s .0), omega (arith, s .1, c .before .before .before .before .before .pre)))
+returns-2 c =
+    let at-t = c .before .before .before in
+    let at-start = at-t .before .before in
+    let s = rw (at-t .t .given .1) at (at-start .pre .0) in (
+      rw (at-t .t .given .1, ne-eqb _ _ (c .before .if1 .left), eq-eqb _ _ (c .if2 .taken)),
+      (omega (arith, s .0), omega (arith, s .1, at-start .pre)),
+    )
 
 enum-told : tie.Need-enum-told
 enum-told c = search needs
 
 returns-3 : tie.Need-returns-3
 unfolding add-total
-returns-3 c = (rw (c .before .before .before .t .given .1, ne-eqb _ _ (c .before .if1 .left), ne-eqb _ _ (c .if2 .left)), tt)
+returns-3 c =
+    let at-t = c .before .before .before in
+    (rw (at-t .t .given .1, ne-eqb _ _ (c .before .if1 .left), ne-eqb _ _ (c .if2 .left)), tt)
 
 returns-4 : tie.Need-returns-4
 unfolding add-total

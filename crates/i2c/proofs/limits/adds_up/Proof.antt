@@ -1,5 +1,5 @@
 -- `i2c::limits::adds_up` meets its contract.
-use Rattle.i2c.specs.Limits.{add-up}
+use Rattle.i2c.specs.inner.Limits.{add-up}
 use borrow.Author.Needs.{needs}
 use Rattle.i2c.proofs.limits.adds_up.Statement.{statement}
 use Rattle.i2c.proofs.limits.adds_up.Tie as tie
@@ -15,7 +15,9 @@ enum-told c = search needs
 
 returns : tie.Need-returns
 unfolding add-up
-returns c = rw (c .before .before .t .given .1, c .are-fitting .ensures)
+returns c =
+    let at-t = c .before .before in
+    rw (at-t .t .given .1, c .are-fitting .ensures)
 
 returns-2 : tie.Need-returns-2
 unfolding add-up

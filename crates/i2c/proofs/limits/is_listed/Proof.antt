@@ -13,7 +13,17 @@ adds-up-requires : tie.Need-adds-up-requires
 adds-up-requires c κs = search needs
 
 returns : tie.Need-returns
-returns c = let s = c .before .before .before .before .before .before in rw (eq-eqb _ _ (c .before .before .before .if1 .taken), le-leb _ _ (c .before .before .if2 .taken), c .adds-up .ensures, c .before .add-all .ensures) (adds-up (now (s .args .kinds)) (now (s .args .lengths)) (s .args .written) (s .args .room) (c .before .before .before .if1 .taken))
+returns c =
+    let at-if2 = c .before .before in
+    let at-if1 = at-if2 .before in
+    let at-start = at-if1 .before .before .before in
+    rw (
+      eq-eqb _ _ (at-if1 .if1 .taken),
+      le-leb _ _ (at-if2 .if2 .taken),
+      c .adds-up .ensures,
+      c .before .add-all .ensures,
+    ) (adds-up (now (at-start .args .kinds)) (now (at-start .args .lengths)) (at-start .args .written)
+    (at-start .args .room) (at-if1 .if1 .taken))
 
 returns-2 : tie.Need-returns-2
 returns-2 c = rw (eq-eqb _ _ (c .before .if1 .taken), lt-leb _ _ (c .if2 .left))

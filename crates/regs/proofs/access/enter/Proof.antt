@@ -1,4 +1,5 @@
--- `regs::access::enter` meets its contract.
+-- `enter`: k < length / 2 keeps the words 2k and 2k + 1 in range, the second by `length-set` after the first
+-- write; the match on `p` decides whether there is an entry, and `head` and `value` give its two words.
 use native.Mathlib.Omega.{arith}
 use lib.ListN.{length-set}
 use borrow.Author.Needs.{needs}
@@ -39,7 +40,9 @@ same-length : tie.Need-same-length
 same-length c = search needs
 
 returns : tie.Need-returns
-returns c = simp (c .before .before .before .p .given .1, c .before .head .ensures, c .value .ensures)
+returns c =
+    let at-p = c .before .before .before in
+    simp (at-p .p .given .1, c .before .head .ensures, c .value .ensures)
 
 returns-2 : tie.Need-returns-2
 returns-2 c = search needs

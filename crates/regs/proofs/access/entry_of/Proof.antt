@@ -17,10 +17,14 @@ returns : tie.Need-returns
 returns c = simp (eq-eqb _ _ (c .before .if1 .taken), c .byte-of .ensures)
 
 returns-2 : tie.Need-returns-2
-returns-2 c = simp (ne-eqb _ _ (c .before .before .if1 .left), eq-eqb _ _ (c .before .if2 .taken), c .byte-of2 .ensures)
+returns-2 c =
+    let at-if1 = c .before .before in
+    simp (ne-eqb _ _ (at-if1 .if1 .left), eq-eqb _ _ (c .before .if2 .taken), c .byte-of2 .ensures)
 
 returns-3 : tie.Need-returns-3
-returns-3 c = simp (ne-eqb _ _ (c .before .before .if1 .left), ne-eqb _ _ (c .before .if2 .left), c .byte-of3 .ensures)
+returns-3 c =
+    let at-if1 = c .before .before in
+    simp (ne-eqb _ _ (at-if1 .if1 .left), ne-eqb _ _ (c .before .if2 .left), c .byte-of3 .ensures)
 
 pub entry-of-spec : {M : Type 1} → statement M
 entry-of-spec =

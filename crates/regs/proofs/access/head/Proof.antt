@@ -1,4 +1,5 @@
--- `regs::access::head` meets its contract.
+-- `head`: the match on the access decides the branch of `head-of`; `wide` returns the byte unchanged, and
+-- 0x300 plus a byte fits in u32, so no sum overflows.
 use borrow.Author.Needs.{needs}
 use Rattle.regs.proofs.access.head.Statement.{statement}
 use Rattle.regs.proofs.access.head.Tie as tie
@@ -34,13 +35,19 @@ enum-told : tie.Need-enum-told
 enum-told c = search needs
 
 returns : tie.Need-returns
-returns c = simp (c .before .before .n .given .1, c .wide .ensures)
+returns c =
+    let at-n = c .before .before in
+    simp (at-n .n .given .1, c .wide .ensures)
 
 returns-2 : tie.Need-returns-2
-returns-2 c = simp (c .before .before .n2 .given .1, c .wide2 .ensures)
+returns-2 c =
+    let at-n2 = c .before .before in
+    simp (at-n2 .n2 .given .1, c .wide2 .ensures)
 
 returns-3 : tie.Need-returns-3
-returns-3 c = simp (c .before .before .n3 .given .1, c .wide3 .ensures)
+returns-3 c =
+    let at-n3 = c .before .before in
+    simp (at-n3 .n3 .given .1, c .wide3 .ensures)
 
 returns-4 : tie.Need-returns-4
 returns-4 c = search needs

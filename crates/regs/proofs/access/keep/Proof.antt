@@ -22,10 +22,14 @@ same-length : tie.Need-same-length
 same-length c = search needs
 
 returns-2 : tie.Need-returns-2
-returns-2 c = simp (c .before .before .e .given .1, lt-ltb _ _ (c .if1 .taken))
+returns-2 c =
+    let at-e = c .before .before in
+    simp (at-e .e .given .1, lt-ltb _ _ (c .if1 .taken))
 
 returns-3 : tie.Need-returns-3
-returns-3 c = rw (c .before .before .e .given .1) (sym (set-out _ _ _ (c .if1 .left)))
+returns-3 c =
+    let at-e = c .before .before in
+    rw (at-e .e .given .1) (sym (set-out _ _ _ (c .if1 .left)))
 
 pub keep-spec : {M : Type 1} → statement M
 keep-spec =

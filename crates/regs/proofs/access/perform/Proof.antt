@@ -1,4 +1,5 @@
--- `regs::access::perform` meets its contract.
+-- `perform`: `has_room` decides: `ltb-true` turns its result into entries < words / 2, which is what `enter`
+-- requires, and `take` gives the result; where it fails `refuse` gives the reply and the log is not written.
 use borrow.Author.Tests.{ltb-true}
 use mathlib.Core.Path.{refl, sym, _∙_}
 use borrow.Author.Needs.{needs}
@@ -12,7 +13,10 @@ take-requires : tie.Need-take-requires
 take-requires c κs = search needs
 
 enter-requires : tie.Need-enter-requires
-enter-requires c κs = ltb-true _ _ (sym (c .before .before .before .has-room .ensures) ∙ c .before .before .if1 .taken)
+enter-requires c κs =
+    let at-if1 = c .before .before in
+    let at-has-room = at-if1 .before in
+    ltb-true _ _ (sym (at-has-room .has-room .ensures) ∙ at-if1 .if1 .taken)
 
 refuse-requires : tie.Need-refuse-requires
 refuse-requires c κs = search needs
@@ -21,10 +25,19 @@ same-length : tie.Need-same-length
 same-length c = search needs
 
 returns : tie.Need-returns
-returns c = (simp (sym (c .before .before .before .before .before .before .has-room .ensures) ∙ c .before .before .before .before .before .if1 .taken, c .before .before .before .before .take .ensures), c .before .before .enter .ensures)
+returns c =
+    let at-enter = c .before .before in
+    let at-take = at-enter .before .before in
+    let at-if1 = at-take .before in
+    let at-has-room = at-if1 .before in (
+      simp (sym (at-has-room .has-room .ensures) ∙ at-if1 .if1 .taken, at-take .take .ensures),
+      at-enter .enter .ensures,
+    )
 
 returns-2 : tie.Need-returns-2
-returns-2 c = (simp (sym (c .before .before .has-room .ensures) ∙ c .before .if1 .left, c .refuse .ensures), refl)
+returns-2 c =
+    let at-has-room = c .before .before in
+    (simp (sym (at-has-room .has-room .ensures) ∙ c .before .if1 .left, c .refuse .ensures), refl)
 
 pub perform-spec : {M : Type 1} → statement M
 perform-spec =

@@ -17,7 +17,9 @@ shl-result-3 : tie.Need-shl-result-3
 shl-result-3 c = search needs
 
 returns : tie.Need-returns
-returns c = field-replaced (c .args .n) (c .args .k) (c .args .w) (c .args .x) (search needs) (search needs) (search needs) (search needs)
+returns c =
+    field-replaced (c .args .n) (c .args .k) (c .args .w) (c .args .x) (search needs) (search needs)
+    (search needs) (search needs)
 
 pub with-field-spec : {M : Type 1} → statement M
 with-field-spec = tie.close (tie.spec shl-result sub-result shl-result-2 shl-result-3 returns)

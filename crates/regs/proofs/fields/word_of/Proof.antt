@@ -20,7 +20,9 @@ returns c =
     let r = b2n-lt (c .args .read) in
     let s = b2n-lt (c .args .stop) in
     let t = b2n-lt (c .args .restart) in
-    or-up 10 (or-up 9 (or-up 8 (is (c .args .byte)) refl (omega arith) (omega arith) refl) refl (omega arith) (omega arith) refl) refl (omega arith) (omega arith) (omega arith)
+    or-up 10 (or-up 9 (or-up 8 (is (c .args .byte)) refl (omega arith) (omega arith) refl) refl (omega arith)
+    (omega arith) refl)
+    refl (omega arith) (omega arith) (omega arith)
 
 pub word-of-spec : {M : Type 1} → statement M
 word-of-spec = tie.close (tie.spec cast-result cast-result-2 cast-result-3 returns)

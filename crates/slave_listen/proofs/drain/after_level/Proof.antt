@@ -1,4 +1,6 @@
--- `slave_listen::drain::after_level` meets its contract.
+-- `after_level`: the match on the pending byte decides, then level > 0 without one and len < length with one
+-- (`lt-ltb`, `le-ltb`), as in `after-level`; the last test keeps len + 1 within u16. `drain_from` and
+-- `settle` give the points.
 use borrow.Author.Tests.{le-ltb, lt-ltb}
 use mathlib.Core.Path.{sym}
 use borrow.Author.Needs.{needs}
@@ -42,16 +44,52 @@ stay-requires-3 : tie.Need-stay-requires-3
 stay-requires-3 c κs = search needs
 
 returns : tie.Need-returns
-returns c = simp (c .before .before .before .before .enum-told .given .1, sym (c .before .before .before .level-of .ensures), lt-ltb _ _ (c .before .before .if1 .taken), c .before .drain-from .ensures, c .stay .ensures)
+returns c =
+    let at-if1 = c .before .before in
+    let at-level-of = at-if1 .before in
+    let at-enum-told = at-level-of .before in
+    simp (
+      at-enum-told .enum-told .given .1,
+      sym (at-level-of .level-of .ensures),
+      lt-ltb _ _ (at-if1 .if1 .taken),
+      c .before .drain-from .ensures,
+      c .stay .ensures,
+    )
 
 returns-2 : tie.Need-returns-2
-returns-2 c = simp (c .before .before .before .before .enum-told .given .1, sym (c .before .before .before .level-of .ensures), le-ltb _ _ (c .before .before .if1 .left), c .before .settle .ensures, c .stay2 .ensures)
+returns-2 c =
+    let at-if1 = c .before .before in
+    let at-level-of = at-if1 .before in
+    let at-enum-told = at-level-of .before in
+    simp (
+      at-enum-told .enum-told .given .1,
+      sym (at-level-of .level-of .ensures),
+      le-ltb _ _ (at-if1 .if1 .left),
+      c .before .settle .ensures,
+      c .stay2 .ensures,
+    )
 
 returns-3 : tie.Need-returns-3
-returns-3 c = simp (c .before .before .before .before .pending .given .1, lt-ltb _ _ (c .before .before .if2 .taken), c .before .drain-from2 .ensures, c .wide .ensures)
+returns-3 c =
+    let at-if2 = c .before .before in
+    let at-pending = at-if2 .before .before in
+    simp (
+      at-pending .pending .given .1,
+      lt-ltb _ _ (at-if2 .if2 .taken),
+      c .before .drain-from2 .ensures,
+      c .wide .ensures,
+    )
 
 returns-4 : tie.Need-returns-4
-returns-4 c = simp (c .before .before .before .before .pending .given .1, le-ltb _ _ (c .before .before .if2 .left), c .before .drain-from3 .ensures, c .stay3 .ensures)
+returns-4 c =
+    let at-if2 = c .before .before in
+    let at-pending = at-if2 .before .before in
+    simp (
+      at-pending .pending .given .1,
+      le-ltb _ _ (at-if2 .if2 .left),
+      c .before .drain-from3 .ensures,
+      c .stay3 .ensures,
+    )
 
 pub after-level-spec : {M : Type 1} → statement M
 after-level-spec =

@@ -1,4 +1,5 @@
--- `slave_steps::reset::advance` meets its contract.
+-- `advance`: the match on the point decides, eleven cases that are `advance-reset` by definition; only the
+-- step from `Con` keeps the word read.
 use borrow.Author.Needs.{needs}
 use Rattle.slave_steps.proofs.reset.advance.Statement.{statement}
 use Rattle.slave_steps.proofs.reset.advance.Tie as tie

@@ -1,4 +1,5 @@
--- `slave_steps::reset::next` meets its contract.
+-- `next`: the match on the point decides, eleven cases as in `next-reset`; `sar`, `con_of_slave` and `flag`
+-- give the words for SAR, CON and ACK_GENERAL_CALL, and the others are constants.
 use borrow.Author.Needs.{needs}
 use Rattle.slave_steps.proofs.reset.next.Statement.{statement}
 use Rattle.slave_steps.proofs.reset.next.Tie as tie
@@ -55,7 +56,9 @@ returns-3 : tie.Need-returns-3
 returns-3 c = simp (c .enum-told3 .given .1)
 
 returns-4 : tie.Need-returns-4
-returns-4 c = simp (c .before .before .p .given .1, c .con-of-slave .ensures)
+returns-4 c =
+    let at-p = c .before .before in
+    simp (at-p .p .given .1, c .con-of-slave .ensures)
 
 returns-5 : tie.Need-returns-5
 returns-5 c = simp (c .before .enum-told4 .given .1, c .flag .ensures)

@@ -1,6 +1,7 @@
--- `svg_text::head::push_head` meets its contract.
+-- `push_head`: `then` joins the five parts in the order of `head-text`; their bounds 200, 253, 665, 558 and
+-- 609 add up to less than 2500, to which `within` widens them.
 use native.Mathlib.Omega.{arith}
-use Rattle.frames_text.proofs.Appends.{then, within}
+use Rattle.text_hex.proofs.Appends.{then, within}
 use Rattle.svg_text.specs.Picture.{head-text}
 use borrow.Author.Needs.{needs}
 use Rattle.svg_text.proofs.head.push_head.Statement.{statement}
@@ -26,7 +27,17 @@ same-length c = search needs
 
 returns : tie.Need-returns
 unfolding head-text
-returns c = within 2500 (omega arith) (then (c .before .before .before .before .before .before .before .before .before .before .before .before .before .before .before .before .before .before .push-opening .ensures) (then (c .before .before .before .before .before .before .before .before .before .before .before .before .before .before .push-style .ensures) (then (c .before .before .before .before .before .before .before .before .before .before .push-conditions .ensures) (then (c .before .before .before .before .before .before .push-bytes .ensures) (c .before .before .push-legend .ensures)))))
+returns c =
+    let at-push-legend = c .before .before in
+    let at-push-bytes = at-push-legend .before .before .before .before in
+    let at-push-conditions = at-push-bytes .before .before .before .before in
+    let at-push-style = at-push-conditions .before .before .before .before in
+    let at-push-opening = at-push-style .before .before .before .before in
+    within 2500 (omega arith)
+    (then (at-push-opening .push-opening .ensures)
+    (then (at-push-style .push-style .ensures)
+    (then (at-push-conditions .push-conditions .ensures)
+    (then (at-push-bytes .push-bytes .ensures) (at-push-legend .push-legend .ensures)))))
 
 pub push-head-spec : {M : Type 1} → statement M
 push-head-spec =

@@ -15,7 +15,9 @@ same-length c = search needs
 
 returns : tie.Need-returns
 unfolding legend-text
-returns c = c .before .before .push-text .ensures
+returns c =
+    let at-push-text = c .before .before in
+    at-push-text .push-text .ensures
 
 pub push-legend-spec : {M : Type 1} → statement M
 push-legend-spec =

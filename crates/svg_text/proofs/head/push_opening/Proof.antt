@@ -1,6 +1,7 @@
--- `svg_text::head::push_opening` meets its contract.
+-- `push_opening`: `then` joins the three texts and two numbers in the order of `opening-text`; `within`
+-- widens their lengths, six bytes for each number, to 200.
 use native.Mathlib.Omega.{arith}
-use Rattle.frames_text.proofs.Appends.{then, within}
+use Rattle.text_hex.proofs.Appends.{then, within}
 use Rattle.svg_text.specs.Picture.{opening-text}
 use borrow.Author.Needs.{needs}
 use Rattle.svg_text.proofs.head.push_opening.Statement.{statement}
@@ -35,7 +36,18 @@ same-length c = search needs
 
 returns : tie.Need-returns
 unfolding opening-text
-returns c = within 200 (omega arith) (then (c .before .before .before .before .before .before .before .before .before .before .before .before .before .before .before .before .before .before .before .before .push-text .ensures) (then (c .before .before .before .before .before .before .before .before .before .before .before .before .before .before .before .before .push-number .ensures) (then (c .before .before .before .before .before .before .before .before .before .before .before .push-text2 .ensures) (then (c .before .before .before .before .before .before .before .push-number2 .ensures) (c .before .before .push-text3 .ensures)))))
+returns c =
+    let at-push-text3 = c .before .before in
+    let at-out4 = at-push-text3 .before .before .before .before in
+    let at-push-number2 = at-out4 .before in
+    let at-push-text2 = at-push-number2 .before .before .before .before in
+    let at-out2 = at-push-text2 .before .before .before .before in
+    let at-push-number = at-out2 .before in
+    let at-push-text = at-push-number .before .before .before .before in
+    within 200 (omega arith) (then (at-push-text .push-text .ensures)
+    (then (at-push-number .push-number .ensures)
+    (then (at-push-text2 .push-text2 .ensures)
+    (then (at-push-number2 .push-number2 .ensures) (at-push-text3 .push-text3 .ensures)))))
 
 pub push-opening-spec : {M : Type 1} → statement M
 push-opening-spec =

@@ -15,7 +15,9 @@ same-length c = search needs
 
 returns : tie.Need-returns
 unfolding style-text
-returns c = c .before .before .push-text .ensures
+returns c =
+    let at-push-text = c .before .before in
+    at-push-text .push-text .ensures
 
 pub push-style-spec : {M : Type 1} → statement M
 push-style-spec =

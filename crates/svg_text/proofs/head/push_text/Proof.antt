@@ -1,4 +1,6 @@
--- `svg_text::head::push_text` meets its contract.
+-- `push_text`: the loop's invariant `InText` says that what is copied and the text from i on make the whole;
+-- `text-next` (proofs/Copied.antt) moves one byte over by `push`. length - i decreases, and end ≤ at + i
+-- keeps the push in range.
 use native.Mathlib.Omega.{arith}
 use Prim.Native.Nat.{_-_}
 use lib.ListN.{length}
@@ -21,7 +23,17 @@ shared-slice-read-push : tie.Need-shared-slice-read-push Inv-loop μ-loop
 shared-slice-read-push c = search needs
 
 push-requires : tie.Need-push-requires Inv-loop μ-loop
-push-requires c κs = omega (arith, c .before .before .before .loop .inv .room, c .before .before .before .loop .inv .size, c .before .before .loop-test .taken, c .before .before .before .before .before .before .pre)
+push-requires c κs =
+    let at-loop-test = c .before .before in
+    let at-loop = at-loop-test .before in
+    let at-start = at-loop .before .before .before in
+    omega (
+      arith,
+      at-loop .loop .inv .room,
+      at-loop .loop .inv .size,
+      at-loop-test .loop-test .taken,
+      at-start .pre,
+    )
 
 add-i : tie.Need-add-i Inv-loop μ-loop
 add-i c = search needs
@@ -30,7 +42,12 @@ loop-less : tie.Need-loop-less Inv-loop μ-loop
 loop-less c = search needs
 
 loop-again : tie.Need-loop-again Inv-loop μ-loop
-loop-again c = text-next (c .before .before .before .before .before .before .loop .inv) (c .before .before .before .before .before .loop-test .taken) refl (c .before .before .push .ensures) (c .before .before .push .kept .0)
+loop-again c =
+    let at-push = c .before .before in
+    let at-loop-test = at-push .before .before .before in
+    let at-loop = at-loop-test .before in
+    text-next (at-loop .loop .inv) (at-loop-test .loop-test .taken) refl (at-push .push .ensures)
+    (at-push .push .kept .0)
 
 same-length : tie.Need-same-length Inv-loop μ-loop
 same-length c = c .before .loop .inv .size

@@ -1,5 +1,6 @@
--- `svg_text::sign::push_address` meets its contract.
-use Rattle.frames_text.proofs.Appends.{then}
+-- `push_address`: `then` joins seven pushes in the order of `byte-text`, with the direction from `letter`;
+-- their bounds add up to exactly 157.
+use Rattle.text_hex.proofs.Appends.{then}
 use Rattle.svg_text.specs.Picture.{byte-text}
 use borrow.Author.Needs.{needs}
 use Rattle.svg_text.proofs.sign.push_address.Statement.{statement}
@@ -40,7 +41,23 @@ same-length c = search needs
 
 returns : tie.Need-returns
 unfolding byte-text
-returns c = rw (← c .before .before .before .before .before .before .before .before .letter .ensures) (then (c .before .before .before .before .before .before .before .before .before .before .before .before .before .before .before .before .before .before .before .before .before .before .before .before .before .before .before .before .before .push-open .ensures) (then (c .before .before .before .before .before .before .before .before .before .before .before .before .before .before .before .before .before .before .before .before .before .before .before .before .before .push-bits .ensures) (then (c .before .before .before .before .before .before .before .before .before .before .before .before .before .before .before .before .before .before .before .before .push-text .ensures) (then (c .before .before .before .before .before .before .before .before .before .before .before .before .before .before .before .before .push2 .ensures) (then (c .before .before .before .before .before .before .before .before .before .before .before .before .push .ensures) (then (c .before .before .before .before .before .before .before .push3 .ensures) (c .before .before .push-text2 .ensures)))))))
+returns c =
+    let at-push-text2 = c .before .before in
+    let at-out6 = at-push-text2 .before .before .before .before in
+    let at-push3 = at-out6 .before in
+    let at-letter = at-push3 .before in
+    let at-push = at-letter .before .before .before .before in
+    let at-push2 = at-push .before .before .before .before in
+    let at-push-text = at-push2 .before .before .before .before in
+    let at-out2 = at-push-text .before .before .before .before in
+    let at-push-bits = at-out2 .before in
+    let at-push-open = at-push-bits .before .before .before .before in
+    rw (← at-letter .letter .ensures)
+    (then (at-push-open .push-open .ensures)
+    (then (at-push-bits .push-bits .ensures)
+    (then (at-push-text .push-text .ensures)
+    (then (at-push2 .push2 .ensures)
+    (then (at-push .push .ensures) (then (at-push3 .push3 .ensures) (at-push-text2 .push-text2 .ensures)))))))
 
 pub push-address-spec : {M : Type 1} → statement M
 push-address-spec =

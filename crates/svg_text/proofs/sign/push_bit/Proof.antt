@@ -14,7 +14,10 @@ same-length : tie.Need-same-length
 same-length c = search needs
 
 returns : tie.Need-returns
-returns c = rw (eq-eqb _ _ (c .before .before .before .before .before .if1 .taken)) (c .before .before .push-text .ensures)
+returns c =
+    let at-push-text = c .before .before in
+    let at-if1 = at-push-text .before .before .before in
+    rw (eq-eqb _ _ (at-if1 .if1 .taken)) (at-push-text .push-text .ensures)
 
 slice-aggregate-push-text-2 : tie.Need-slice-aggregate-push-text-2
 slice-aggregate-push-text-2 c = search needs
@@ -26,7 +29,10 @@ same-length-2 : tie.Need-same-length-2
 same-length-2 c = search needs
 
 returns-2 : tie.Need-returns-2
-returns-2 c = rw (ne-eqb _ _ (c .before .before .before .before .before .if1 .left)) (c .before .before .push-text2 .ensures)
+returns-2 c =
+    let at-push-text2 = c .before .before in
+    let at-if1 = at-push-text2 .before .before .before in
+    rw (ne-eqb _ _ (at-if1 .if1 .left)) (at-push-text2 .push-text2 .ensures)
 
 pub push-bit-spec : {M : Type 1} → statement M
 push-bit-spec =

@@ -1,5 +1,6 @@
--- `svg_text::sign::push_bits` meets its contract.
-use Rattle.frames_text.proofs.Appends.{then}
+-- `push_bits`: `then` joins eight calls of `push_bit`, from b / 128 % 2 down to b % 2, in the order of
+-- `bits-text`; six bytes each make 48.
+use Rattle.text_hex.proofs.Appends.{then}
 use Rattle.svg_text.specs.Picture.{bits-text}
 use borrow.Author.Needs.{needs}
 use Rattle.svg_text.proofs.sign.push_bits.Statement.{statement}
@@ -34,7 +35,22 @@ same-length c = search needs
 
 returns : tie.Need-returns
 unfolding bits-text
-returns c = then (c .before .before .before .before .before .before .before .before .before .before .before .before .before .before .before .before .before .before .before .before .before .before .before .before .before .before .before .before .before .before .push-bit .ensures) (then (c .before .before .before .before .before .before .before .before .before .before .before .before .before .before .before .before .before .before .before .before .before .before .before .before .before .before .push-bit2 .ensures) (then (c .before .before .before .before .before .before .before .before .before .before .before .before .before .before .before .before .before .before .before .before .before .before .push-bit3 .ensures) (then (c .before .before .before .before .before .before .before .before .before .before .before .before .before .before .before .before .before .before .push-bit4 .ensures) (then (c .before .before .before .before .before .before .before .before .before .before .before .before .before .before .push-bit5 .ensures) (then (c .before .before .before .before .before .before .before .before .before .before .push-bit6 .ensures) (then (c .before .before .before .before .before .before .push-bit7 .ensures) (c .before .before .push-bit8 .ensures)))))))
+returns c =
+    let at-push-bit8 = c .before .before in
+    let at-push-bit7 = at-push-bit8 .before .before .before .before in
+    let at-push-bit6 = at-push-bit7 .before .before .before .before in
+    let at-push-bit5 = at-push-bit6 .before .before .before .before in
+    let at-push-bit4 = at-push-bit5 .before .before .before .before in
+    let at-push-bit3 = at-push-bit4 .before .before .before .before in
+    let at-push-bit2 = at-push-bit3 .before .before .before .before in
+    let at-push-bit = at-push-bit2 .before .before .before .before in
+    then (at-push-bit .push-bit .ensures)
+    (then (at-push-bit2 .push-bit2 .ensures)
+    (then (at-push-bit3 .push-bit3 .ensures)
+    (then (at-push-bit4 .push-bit4 .ensures)
+    (then (at-push-bit5 .push-bit5 .ensures)
+    (then (at-push-bit6 .push-bit6 .ensures)
+    (then (at-push-bit7 .push-bit7 .ensures) (at-push-bit8 .push-bit8 .ensures)))))))
 
 pub push-bits-spec : {M : Type 1} → statement M
 push-bits-spec =

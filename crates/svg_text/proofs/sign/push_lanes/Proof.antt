@@ -1,6 +1,6 @@
 -- `svg_text::sign::push_lanes` meets its contract.
 use borrow.Author.Tests.{eq-eqb, ne-eqb}
-use Rattle.frames_text.proofs.Appends.{nothing}
+use Rattle.text_hex.proofs.Appends.{nothing}
 use borrow.Author.Needs.{needs}
 use Rattle.svg_text.proofs.sign.push_lanes.Statement.{statement}
 use Rattle.svg_text.proofs.sign.push_lanes.Tie as tie
@@ -12,7 +12,10 @@ same-length : tie.Need-same-length
 same-length c = search needs
 
 returns : tie.Need-returns
-returns c = rw (eq-eqb _ _ (c .before .before .before .before .if1 .taken)) (c .before .before .push-shape .ensures)
+returns c =
+    let at-push-shape = c .before .before in
+    let at-if1 = at-push-shape .before .before in
+    rw (eq-eqb _ _ (at-if1 .if1 .taken)) (at-push-shape .push-shape .ensures)
 
 returns-2 : tie.Need-returns-2
 returns-2 c = rw (ne-eqb _ _ (c .if1 .left)) (nothing _ _ _)

@@ -1,5 +1,6 @@
--- `svg_text::sign::push_open` meets its contract.
-use Rattle.frames_text.proofs.Appends.{then}
+-- `push_open`: `then` joins seven pushes in the order of `open-text`: three texts, two numbers of at most six
+-- bytes, the comma and the letter; their bounds add up to exactly 70.
+use Rattle.text_hex.proofs.Appends.{then}
 use Rattle.svg_text.specs.Picture.{open-text}
 use borrow.Author.Needs.{needs}
 use Rattle.svg_text.proofs.sign.push_open.Statement.{statement}
@@ -40,7 +41,22 @@ same-length c = search needs
 
 returns : tie.Need-returns
 unfolding open-text
-returns c = then (c .before .before .before .before .before .before .before .before .before .before .before .before .before .before .before .before .before .before .before .before .before .before .before .before .before .before .before .before .push-text .ensures) (then (c .before .before .before .before .before .before .before .before .before .before .before .before .before .before .before .before .before .before .before .before .before .before .before .before .push-number .ensures) (then (c .before .before .before .before .before .before .before .before .before .before .before .before .before .before .before .before .before .before .before .before .push .ensures) (then (c .before .before .before .before .before .before .before .before .before .before .before .before .before .before .before .before .push-number2 .ensures) (then (c .before .before .before .before .before .before .before .before .before .before .before .push-text2 .ensures) (then (c .before .before .before .before .before .before .before .push2 .ensures) (c .before .before .push-text3 .ensures))))))
+returns c =
+    let at-push-text3 = c .before .before in
+    let at-out6 = at-push-text3 .before .before .before .before in
+    let at-push2 = at-out6 .before in
+    let at-push-text2 = at-push2 .before .before .before .before in
+    let at-out4 = at-push-text2 .before .before .before .before in
+    let at-push-number2 = at-out4 .before in
+    let at-push = at-push-number2 .before .before .before .before in
+    let at-push-number = at-push .before .before .before .before in
+    let at-push-text = at-push-number .before .before .before .before in
+    then (at-push-text .push-text .ensures)
+    (then (at-push-number .push-number .ensures)
+    (then (at-push .push .ensures)
+    (then (at-push-number2 .push-number2 .ensures)
+    (then (at-push-text2 .push-text2 .ensures)
+    (then (at-push2 .push2 .ensures) (at-push-text3 .push-text3 .ensures))))))
 
 pub push-open-spec : {M : Type 1} → statement M
 push-open-spec =

@@ -1,5 +1,6 @@
--- `svg_text::sign::push_shape` meets its contract.
-use Rattle.frames_text.proofs.Appends.{then}
+-- `push_shape`: `then` joins seven pushes in the order of `shape-text`: four texts, the letter and two
+-- numbers of at most six bytes; their bounds add up to exactly 39.
+use Rattle.text_hex.proofs.Appends.{then}
 use Rattle.svg_text.specs.Picture.{shape-text}
 use borrow.Author.Needs.{needs}
 use Rattle.svg_text.proofs.sign.push_shape.Statement.{statement}
@@ -43,7 +44,23 @@ same-length c = search needs
 
 returns : tie.Need-returns
 unfolding shape-text
-returns c = then (c .before .before .before .before .before .before .before .before .before .before .before .before .before .before .before .before .before .before .before .before .before .before .before .before .before .before .before .before .before .push-text .ensures) (then (c .before .before .before .before .before .before .before .before .before .before .before .before .before .before .before .before .before .before .before .before .before .before .before .before .before .push .ensures) (then (c .before .before .before .before .before .before .before .before .before .before .before .before .before .before .before .before .before .before .before .before .push-text2 .ensures) (then (c .before .before .before .before .before .before .before .before .before .before .before .before .before .before .before .before .push-number .ensures) (then (c .before .before .before .before .before .before .before .before .before .before .before .push-text3 .ensures) (then (c .before .before .before .before .before .before .before .push-number2 .ensures) (c .before .before .push-text4 .ensures))))))
+returns c =
+    let at-push-text4 = c .before .before in
+    let at-out6 = at-push-text4 .before .before .before .before in
+    let at-push-number2 = at-out6 .before in
+    let at-push-text3 = at-push-number2 .before .before .before .before in
+    let at-out4 = at-push-text3 .before .before .before .before in
+    let at-push-number = at-out4 .before in
+    let at-push-text2 = at-push-number .before .before .before .before in
+    let at-out2 = at-push-text2 .before .before .before .before in
+    let at-push = at-out2 .before in
+    let at-push-text = at-push .before .before .before .before in
+    then (at-push-text .push-text .ensures)
+    (then (at-push .push .ensures)
+    (then (at-push-text2 .push-text2 .ensures)
+    (then (at-push-number .push-number .ensures)
+    (then (at-push-text3 .push-text3 .ensures)
+    (then (at-push-number2 .push-number2 .ensures) (at-push-text4 .push-text4 .ensures))))))
 
 pub push-shape-spec : {M : Type 1} → statement M
 push-shape-spec =

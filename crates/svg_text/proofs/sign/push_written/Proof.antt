@@ -1,6 +1,7 @@
--- `svg_text::sign::push_written` meets its contract.
+-- `push_written`: `then` joins five pushes in the order of `byte-text`; their bounds add up to 155, which
+-- `within` widens to the 157 of an address byte.
 use native.Mathlib.Omega.{arith}
-use Rattle.frames_text.proofs.Appends.{then, within}
+use Rattle.text_hex.proofs.Appends.{then, within}
 use Rattle.svg_text.specs.Picture.{byte-text}
 use borrow.Author.Needs.{needs}
 use Rattle.svg_text.proofs.sign.push_written.Statement.{statement}
@@ -32,7 +33,18 @@ same-length c = search needs
 
 returns : tie.Need-returns
 unfolding byte-text
-returns c = within 157 (omega arith) (then (c .before .before .before .before .before .before .before .before .before .before .before .before .before .before .before .before .before .before .before .before .push-open .ensures) (then (c .before .before .before .before .before .before .before .before .before .before .before .before .before .before .before .before .push-bits .ensures) (then (c .before .before .before .before .before .before .before .before .before .before .before .push-text .ensures) (then (c .before .before .before .before .before .before .before .push2 .ensures) (c .before .before .push-text2 .ensures)))))
+returns c =
+    let at-push-text2 = c .before .before in
+    let at-out4 = at-push-text2 .before .before .before .before in
+    let at-push2 = at-out4 .before in
+    let at-push-text = at-push2 .before .before .before .before in
+    let at-out2 = at-push-text .before .before .before .before in
+    let at-push-bits = at-out2 .before in
+    let at-push-open = at-push-bits .before .before .before .before in
+    within 157 (omega arith) (then (at-push-open .push-open .ensures)
+    (then (at-push-bits .push-bits .ensures)
+    (then (at-push-text .push-text .ensures)
+    (then (at-push2 .push2 .ensures) (at-push-text2 .push-text2 .ensures)))))
 
 pub push-written-spec : {M : Type 1} → statement M
 push-written-spec =

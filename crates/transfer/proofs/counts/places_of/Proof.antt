@@ -1,5 +1,5 @@
 -- `transfer::counts::places_of` meets its contract.
-use Rattle.transfer.specs.Machine.{places}
+use Rattle.transfer.specs.inner.Machine.{places}
 use borrow.Author.Tests.{le-ltb, lt-ltb}
 use borrow.Author.Needs.{needs}
 use Rattle.transfer.proofs.counts.places_of.Statement.{statement}

@@ -21,10 +21,15 @@ returns : tie.Need-returns
 returns c = search needs
 
 returns-2 : tie.Need-returns-2
-returns-2 c = sym (List·getD-eq-default (now (c .before .before .args .bytes)) 0 {n = c .before .before .args .at + c .before .before .args .i} (omega (arith, c .if2 .left, c .before .if1 .taken)))
+returns-2 c =
+    let at-start = c .before .before in
+    sym (List·getD-eq-default (now (at-start .args .bytes)) 0 {n = at-start .args .at + at-start .args .i}
+    (omega (arith, c .if2 .left, c .before .if1 .taken)))
 
 returns-3 : tie.Need-returns-3
-returns-3 c = sym (List·getD-eq-default (now (c .before .args .bytes)) 0 {n = c .before .args .at + c .before .args .i} (omega (arith, c .if1 .left)))
+returns-3 c =
+    sym (List·getD-eq-default (now (c .before .args .bytes)) 0 {n = c .before .args .at + c .before .args .i}
+    (omega (arith, c .if1 .left)))
 
 pub byte-of-spec : {M : Type 1} → statement M
 byte-of-spec =

@@ -1,5 +1,5 @@
 -- `transfer_access::words::next_abort` meets its contract.
-use Rattle.transfer.specs.Machine.{next-abort}
+use Rattle.transfer.specs.inner.Machine.{next-abort}
 use borrow.Author.Needs.{needs}
 use Rattle.transfer_access.proofs.words.next_abort.Statement.{statement}
 use Rattle.transfer_access.proofs.words.next_abort.Tie as tie

@@ -1,5 +1,5 @@
 -- `transfer_access::words::next_fill` meets its contract.
-use Rattle.transfer.specs.Machine.{next-fill}
+use Rattle.transfer.specs.inner.Machine.{next-fill}
 use borrow.Author.Needs.{needs}
 use Rattle.transfer_access.proofs.words.next_fill.Statement.{statement}
 use Rattle.transfer_access.proofs.words.next_fill.Tie as tie
@@ -25,7 +25,9 @@ returns c = simp (c .enum-told .given .1)
 
 returns-2 : tie.Need-returns-2
 unfolding next-fill
-returns-2 c = simp (c .before .before .before .p .given .1, c .before .byte-of .ensures, c .word-of-fill .ensures)
+returns-2 c =
+    let at-p = c .before .before .before in
+    simp (at-p .p .given .1, c .before .byte-of .ensures, c .word-of-fill .ensures)
 
 returns-3 : tie.Need-returns-3
 unfolding next-fill

@@ -1,5 +1,6 @@
--- `transfer_access::words::next_read` meets its contract.
-use Rattle.transfer.specs.Machine.{next-read}
+-- `next_read`: the match on the point decides, four cases as in `next-read`; `word_of_read` gives the word of
+-- the only write, and the three reads are constants.
+use Rattle.transfer.specs.inner.Machine.{next-read}
 use borrow.Author.Needs.{needs}
 use Rattle.transfer_access.proofs.words.next_read.Statement.{statement}
 use Rattle.transfer_access.proofs.words.next_read.Tie as tie
@@ -25,7 +26,9 @@ returns c = simp (c .enum-told .given .1)
 
 returns-2 : tie.Need-returns-2
 unfolding next-read
-returns-2 c = simp (c .before .before .p .given .1, c .word-of-read .ensures)
+returns-2 c =
+    let at-p = c .before .before in
+    simp (at-p .p .given .1, c .word-of-read .ensures)
 
 returns-3 : tie.Need-returns-3
 unfolding next-read

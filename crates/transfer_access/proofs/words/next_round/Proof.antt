@@ -1,5 +1,6 @@
--- `transfer_access::words::next_round` meets its contract.
-use Rattle.transfer.specs.Machine.{next-round}
+-- `next_round`: the match on the point decides, four cases as in `next-round`; `word_of_queue` gives the word
+-- of the only write, and the three reads are constants.
+use Rattle.transfer.specs.inner.Machine.{next-round}
 use borrow.Author.Needs.{needs}
 use Rattle.transfer_access.proofs.words.next_round.Statement.{statement}
 use Rattle.transfer_access.proofs.words.next_round.Tie as tie
@@ -25,7 +26,9 @@ returns c = simp (c .enum-told .given .1)
 
 returns-2 : tie.Need-returns-2
 unfolding next-round
-returns-2 c = simp (c .before .before .p .given .1, c .word-of-queue .ensures)
+returns-2 c =
+    let at-p = c .before .before in
+    simp (at-p .p .given .1, c .word-of-queue .ensures)
 
 returns-3 : tie.Need-returns-3
 unfolding next-round

@@ -1,5 +1,5 @@
 -- `transfer_access::words::next_setup` meets its contract.
-use Rattle.transfer.specs.Machine.{next-setup}
+use Rattle.transfer.specs.inner.Machine.{next-setup}
 use borrow.Author.Needs.{needs}
 use Rattle.transfer_access.proofs.words.next_setup.Statement.{statement}
 use Rattle.transfer_access.proofs.words.next_setup.Tie as tie

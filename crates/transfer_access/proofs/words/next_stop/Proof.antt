@@ -1,5 +1,5 @@
 -- `transfer_access::words::next_stop` meets its contract.
-use Rattle.transfer.specs.Machine.{next-stop}
+use Rattle.transfer.specs.inner.Machine.{next-stop}
 use borrow.Author.Needs.{needs}
 use Rattle.transfer_access.proofs.words.next_stop.Statement.{statement}
 use Rattle.transfer_access.proofs.words.next_stop.Tie as tie

@@ -1,5 +1,6 @@
--- `transfer_access::words::next_wait` meets its contract.
-use Rattle.transfer.specs.Machine.{next-wait}
+-- `next_wait`: the match on the point decides, five cases as in `next-wait`; `less` gives the threshold for
+-- RX_TL, whose cast from u16 to u32 is exact, and SetMask writes the word that the point has.
+use Rattle.transfer.specs.inner.Machine.{next-wait}
 use borrow.Author.Needs.{needs}
 use Rattle.transfer_access.proofs.words.next_wait.Statement.{statement}
 use Rattle.transfer_access.proofs.words.next_wait.Tie as tie
@@ -27,7 +28,9 @@ enum-told-3 c = search needs
 
 returns : tie.Need-returns
 unfolding next-wait
-returns c = simp (c .before .before .p .given .1, c .less .ensures)
+returns c =
+    let at-p = c .before .before in
+    simp (at-p .p .given .1, c .less .ensures)
 
 returns-2 : tie.Need-returns-2
 unfolding next-wait

@@ -1,5 +1,5 @@
 -- `transfer_access::words::next_write` meets its contract.
-use Rattle.transfer.specs.Machine.{next-write}
+use Rattle.transfer.specs.inner.Machine.{next-write}
 use borrow.Author.Needs.{needs}
 use Rattle.transfer_access.proofs.words.next_write.Statement.{statement}
 use Rattle.transfer_access.proofs.words.next_write.Tie as tie
@@ -21,7 +21,9 @@ enum-told-2 c = search needs
 
 returns : tie.Need-returns
 unfolding next-write
-returns c = simp (c .before .before .before .p .given .1, c .before .byte-of .ensures, c .word-of-write .ensures)
+returns c =
+    let at-p = c .before .before .before in
+    simp (at-p .p .given .1, c .before .byte-of .ensures, c .word-of-write .ensures)
 
 returns-2 : tie.Need-returns-2
 unfolding next-write

@@ -1,5 +1,6 @@
--- `transfer_access::words::store_read` meets its contract.
-use Rattle.transfer.specs.Machine.{store-read}
+-- `store_read`: a case split over the four read points by unfolding `store-read`. Only `Take` stores: its
+-- place and its byte are rewritten by what `sum` (which wraps as `sum-of` does) and `byte_of` ensure.
+use Rattle.transfer.specs.inner.Machine.{store-read}
 use borrow.Author.Needs.{needs}
 use Rattle.transfer_access.proofs.words.store_read.Statement.{statement}
 use Rattle.transfer_access.proofs.words.store_read.Tie as tie
@@ -36,7 +37,9 @@ returns-3 c = search needs
 
 returns-4 : tie.Need-returns-4
 unfolding store-read
-returns-4 c = simp (c .before .before .before .p .given .1, c .before .sum .ensures, c .byte-of .ensures)
+returns-4 c =
+    let at-p = c .before .before .before in
+    simp (at-p .p .given .1, c .before .sum .ensures, c .byte-of .ensures)
 
 pub store-read-spec : {M : Type 1} → statement M
 store-read-spec =

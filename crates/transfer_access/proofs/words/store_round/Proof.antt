@@ -1,5 +1,7 @@
--- `transfer_access::words::store_round` meets its contract.
-use Rattle.transfer.specs.Machine.{store-round}
+-- `store_round`: a case split over the four round points by unfolding `store-round`. Only `Fetch` stores: its
+-- place is the two truncated `difference`s and then the wrapping `sum`, in the definition's order, and its
+-- byte is what `byte_of` ensures.
+use Rattle.transfer.specs.inner.Machine.{store-round}
 use borrow.Author.Needs.{needs}
 use Rattle.transfer_access.proofs.words.store_round.Statement.{statement}
 use Rattle.transfer_access.proofs.words.store_round.Tie as tie
@@ -42,7 +44,17 @@ returns-3 c = search needs
 
 returns-4 : tie.Need-returns-4
 unfolding store-round
-returns-4 c = simp (c .before .before .before .before .before .p .given .1, c .before .before .before .difference .ensures, c .before .before .difference2 .ensures, c .before .sum .ensures, c .byte-of .ensures)
+returns-4 c =
+    let at-difference2 = c .before .before in
+    let at-difference = at-difference2 .before in
+    let at-p = at-difference .before .before in
+    simp (
+      at-p .p .given .1,
+      at-difference .difference .ensures,
+      at-difference2 .difference2 .ensures,
+      c .before .sum .ensures,
+      c .byte-of .ensures,
+    )
 
 pub store-round-spec : {M : Type 1} → statement M
 store-round-spec =

@@ -1,5 +1,5 @@
 -- `transfer_access::words::word_of_fill` meets its contract.
-use Rattle.transfer.specs.Machine.{fill-word}
+use Rattle.transfer.specs.inner.Machine.{fill-word}
 use borrow.Author.Needs.{needs}
 use Rattle.transfer_access.proofs.words.word_of_fill.Statement.{statement}
 use Rattle.transfer_access.proofs.words.word_of_fill.Tie as tie

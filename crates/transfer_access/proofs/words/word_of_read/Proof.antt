@@ -1,5 +1,5 @@
 -- `transfer_access::words::word_of_read` meets its contract.
-use Rattle.transfer.specs.Machine.{read-word}
+use Rattle.transfer.specs.inner.Machine.{read-word}
 use borrow.Author.Needs.{needs}
 use Rattle.transfer_access.proofs.words.word_of_read.Statement.{statement}
 use Rattle.transfer_access.proofs.words.word_of_read.Tie as tie

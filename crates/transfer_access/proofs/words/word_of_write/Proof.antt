@@ -1,5 +1,5 @@
 -- `transfer_access::words::word_of_write` meets its contract.
-use Rattle.transfer.specs.Machine.{write-word}
+use Rattle.transfer.specs.inner.Machine.{write-word}
 use borrow.Author.Needs.{needs}
 use Rattle.transfer_access.proofs.words.word_of_write.Statement.{statement}
 use Rattle.transfer_access.proofs.words.word_of_write.Tie as tie

@@ -1,0 +1,2 @@
+-- An entry on its way to text.
+pub mod inner

@@ -1,2 +1,0 @@
--- What a run of bytes leads to.
-pub mod Bytes

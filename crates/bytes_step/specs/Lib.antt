@@ -1,2 +1,0 @@
--- What bytes inside a line lead to.
-pub mod Inside

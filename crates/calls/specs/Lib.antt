@@ -1,3 +1,0 @@
--- What a call of the replay leaves and prints.
-pub mod Calls
-pub mod Runs

@@ -1,0 +1,153 @@
+// The slave's calls for programs in C or Rust. The state goes in and comes out by value, as numbers.
+use super::Slave;
+use super::SlaveReport;
+use super::told;
+use slave::Pending;
+use slave::SlaveState;
+use slave_run::Left;
+ghost use mathlib.Core.Path.{_≡_};
+ghost use mathlib.Core.List.{[]};
+ghost use lib.ListN.{length};
+ghost use Rattle.regs.specs.Log.{LeavesState, LeavesAll, expected};
+ghost use Rattle.slave.specs.I2cSlave.{reset-call, listen-call, respond-to-read-call, respond-till-stop-call};
+ghost use Rattle.slave.specs.I2cSlave.{respond-and-fill-call};
+ghost use Rattle.export_calls.specs.Report.{report-of, pending-of, state-of, ReportsState};
+
+fn pending(has: bool, byte: u8) -> Pending
+    ensures { λ r. ⌜ r ≡ pending-of has byte ⌝ }
+{
+    if has {
+        Pending::Byte(byte)
+    } else {
+        Pending::None
+    }
+}
+
+fn state(s: Slave) -> SlaveState
+    ensures { λ r. ⌜ r ≡ state-of s ⌝ }
+{
+    SlaveState {
+        pending_byte: pending(s.has_pending, s.pending_byte),
+        address: s.address,
+        general_call: s.general_call,
+    }
+}
+
+// The state as numbers. Where no byte is kept, its place is 0.
+fn numbers(s: SlaveState) -> Slave
+    ensures { λ r. ⌜ state-of r ≡ s ⌝ }
+{
+    let p = s.pending_byte;
+    match p {
+        Pending::Byte(b) => Slave {
+            has_pending: true,
+            pending_byte: b,
+            address: s.address,
+            general_call: s.general_call,
+        },
+        Pending::None => Slave {
+            has_pending: false,
+            pending_byte: 0,
+            address: s.address,
+            general_call: s.general_call,
+        },
+    }
+}
+
+fn both(l: Left) -> SlaveReport
+    ensures { λ r. ⌜ (state-of (r .state) ≡ l .state) × (r .report ≡ report-of (l .ran)) ⌝ }
+{
+    let s = l.state;
+    let ran = l.ran;
+    SlaveReport {
+        state: numbers(s),
+        report: told(ran),
+    }
+}
+
+// `reset`, which sets address and general call.
+#[no_mangle]
+pub extern "C" fn celadonsaw_slave_reset(
+    slave: Slave,
+    address: u16,
+    general_call: bool,
+    readings: &[u32],
+    log: &mut [u32],
+) -> SlaveReport
+    ensures { λ r. ⌜ ReportsState
+        (LeavesState (expected (reset-call address «general_call») (now (log .entry)) (now (readings .entry))
+        [] (state-of slave))
+        (now (log .entry)) (now (log .exit)))
+        r ⌝ }
+{
+    both(slave_run::reset_from(state(slave), address, general_call, readings, log))
+}
+
+// `listen`, into the buffer.
+#[no_mangle]
+pub extern "C" fn celadonsaw_slave_listen(
+    slave: Slave,
+    buffer: &mut [u8],
+    readings: &[u32],
+    log: &mut [u32],
+) -> SlaveReport
+    ensures { λ r. ⌜ ReportsState
+        (LeavesAll (expected (listen-call (length (now (buffer .entry)))) (now (log .entry))
+        (now (readings .entry)) (now (buffer .entry)) (state-of slave))
+        (now (log .entry)) (now (log .exit)) (now (buffer .exit)))
+        r ⌝ }
+{
+    both(slave_run::listen_from(state(slave), buffer, readings, log))
+}
+
+// `respond_to_read`, with the bytes.
+#[no_mangle]
+pub extern "C" fn celadonsaw_slave_respond_to_read(
+    slave: Slave,
+    bytes: &[u8],
+    readings: &[u32],
+    log: &mut [u32],
+) -> SlaveReport
+    ensures { λ r. ⌜ ReportsState
+        (LeavesState (expected (respond-to-read-call (now (bytes .entry))) (now (log .entry))
+        (now (readings .entry)) [] (state-of slave))
+        (now (log .entry)) (now (log .exit)))
+        r ⌝ }
+{
+    both(slave_run::respond_to_read_from(state(slave), bytes, readings, log))
+}
+
+// `respond_till_stop`, with the fill byte.
+#[no_mangle]
+pub extern "C" fn celadonsaw_slave_respond_till_stop(
+    slave: Slave,
+    fill: u8,
+    readings: &[u32],
+    log: &mut [u32],
+) -> SlaveReport
+    ensures { λ r. ⌜ ReportsState
+        (LeavesState (expected (respond-till-stop-call fill) (now (log .entry)) (now (readings .entry)) []
+        (state-of slave))
+        (now (log .entry)) (now (log .exit)))
+        r ⌝ }
+{
+    both(slave_run::respond_till_stop_from(state(slave), fill, readings, log))
+}
+
+// `respond_and_fill`, with the bytes and then the fill byte.
+#[no_mangle]
+pub extern "C" fn celadonsaw_slave_respond_and_fill(
+    slave: Slave,
+    bytes: &[u8],
+    fill: u8,
+    readings: &[u32],
+    log: &mut [u32],
+) -> SlaveReport
+    ensures { λ r. ⌜ ReportsState
+        (LeavesState (expected (respond-and-fill-call (now (bytes .entry)) fill) (now (log .entry))
+        (now (readings .entry)) [] (state-of slave))
+        (now (log .entry)) (now (log .exit)))
+        r ⌝ }
+{
+    both(slave_run::respond_and_fill_from(state(slave), bytes, fill, readings, log))
+}

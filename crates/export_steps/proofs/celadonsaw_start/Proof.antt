@@ -1,0 +1,67 @@
+-- `celadonsaw_start`: the test `is_listed` is the condition of `first-of`; both branches put what `mode` and
+-- `start` give, the second after `refuse`, and `put`'s contract says that the words then hold that transfer.
+use borrow.Author.Needs.{needs}
+use mathlib.Core.Path.{sym, _∙_}
+use Rattle.export_steps.specs.Steps.{first-of}
+use Rattle.export_steps.proofs.celadonsaw_start.Statement.{statement}
+use Rattle.export_steps.proofs.celadonsaw_start.Tie as tie
+
+mode-requires : tie.Need-mode-requires
+mode-requires c κs = search needs
+
+start-requires : tie.Need-start-requires
+start-requires c κs = search needs
+
+is-listed-requires : tie.Need-is-listed-requires
+is-listed-requires c κs = search needs
+
+put-requires : tie.Need-put-requires
+put-requires c κs = search needs
+
+refuse-requires : tie.Need-refuse-requires
+refuse-requires c κs = search needs
+
+put-requires-2 : tie.Need-put-requires-2
+put-requires-2 c κs = search needs
+
+returns : tie.Need-returns
+unfolding first-of
+returns c =
+    let at-if1 = c .before .before in
+    let at-is-listed = at-if1 .before in
+    let at-start = at-is-listed .before in
+    let at-mode = at-start .before in
+    c .put .ensures
+    ∙ simp (
+      at-mode .mode .ensures,
+      at-start .start .ensures,
+      sym (at-is-listed .is-listed .ensures) ∙ at-if1 .if1 .taken,
+    )
+
+returns-2 : tie.Need-returns-2
+unfolding first-of
+returns-2 c =
+    let at-if1 = c .before .before .before in
+    let at-is-listed = at-if1 .before in
+    let at-start = at-is-listed .before in
+    let at-mode = at-start .before in
+    c .put2 .ensures
+    ∙ simp (
+      c .before .refuse .ensures,
+      at-mode .mode .ensures,
+      at-start .start .ensures,
+      sym (at-is-listed .is-listed .ensures) ∙ at-if1 .if1 .left,
+    )
+
+pub celadonsaw-start-spec : {M : Type 1} → statement M
+celadonsaw-start-spec =
+    tie.close
+    (tie.spec
+    mode-requires
+    start-requires
+    is-listed-requires
+    put-requires
+    refuse-requires
+    put-requires-2
+    returns
+    returns-2)

@@ -1,0 +1,183 @@
+// A master transfer driven one access at a time from C or Rust (`rt staticlib export_steps`): start it
+// and ask for the first access; then perform the access and step with the word read, until the access
+// is the end. The transfer is held by the caller, as 20 words (`words`) that each function is lent.
+use i2c::is_listed;
+use regs::access::Next;
+use regs::answers::Answer;
+use regs::answers::Refusal;
+use regs::answers::Reply;
+use transfer::Point;
+use transfer::Transfer;
+use words::ROW;
+use words::WORD;
+ghost use mathlib.Core.Path.{_≡_};
+ghost use Rattle.regs.specs.inner.Machine.{stored-in};
+ghost use Rattle.words_points.specs.Held.{held-of, advanced-held, store-held};
+ghost use Rattle.words.specs.inner.Words.{held-at};
+ghost use Rattle.export_steps.specs.Steps.{access-of, access-held, over-limits, first-of};
+
+// The access that is next: kind 1 reads the register, 2 writes the value to it,
+// 3 is a mark (register 0: a poll that is not done; 1: a reset of the block),
+// and 0 is the end, with the answer's number and, as value, its detail.
+#[repr(C)]
+pub struct Access {
+    pub kind: u8,
+    pub register: u8,
+    pub number: u8,
+    pub value: u32,
+}
+
+fn told_access(n: Next) -> Access
+    ensures { λ r. ⌜ r ≡ access-of n ⌝ }
+{
+    match n {
+        Next::Read(r) => Access {
+            kind: 1,
+            register: r,
+            number: 0,
+            value: 0,
+        },
+        Next::Write(r, v) => Access {
+            kind: 2,
+            register: r,
+            number: 0,
+            value: v,
+        },
+        Next::Mark(k) => Access {
+            kind: 3,
+            register: k,
+            number: 0,
+            value: 0,
+        },
+        Next::Finished(a) => Access {
+            kind: 0,
+            register: 0,
+            number: regs_numbers::number_of(Reply::Answered(a)),
+            value: regs_numbers::detail_of(Reply::Answered(a)),
+        },
+    }
+}
+
+// The transfer turned down by number 20.
+fn refuse(t: Transfer) -> Transfer
+    ensures { λ r. ⌜ r ≡ over-limits t ⌝ }
+{
+    let mode = t.mode;
+    Transfer {
+        point: Point::Finished(Answer::Refused(Refusal::OverLimits)),
+        mode,
+        restart: t.restart,
+        send_stop: t.send_stop,
+        address: t.address,
+        len: t.len,
+        at: t.at,
+        begun: t.begun,
+        reads: t.reads,
+        writes: t.writes,
+    }
+}
+
+// A transfer before its first access. `queued` takes the async form. `restart` is false for a
+// transaction, true for a read, a write or a write-read. `kinds` (0 a read, 1 a write) and `lengths`
+// list the operations, `written` and `room` are the lengths of the write and the read buffer.
+#[no_mangle]
+pub extern "C" fn celadonsaw_start(
+    words: &mut [u64; 20],
+    queued: bool,
+    restart: bool,
+    address: u16,
+    kinds: &[u8],
+    lengths: &[u16],
+    written: usize,
+    room: usize,
+)
+    ensures { λ _. ⌜ held-at (now (words .exit)) ≡ held-of
+        (first-of queued restart address (now (kinds .entry)) (now (lengths .entry)) written room) ⌝ }
+{
+    let t = transfer_steps::start(words::mode(queued), restart, address, kinds);
+    if is_listed(kinds, lengths, written, room) {
+        words::put(words, t);
+    } else {
+        words::put(words, refuse(t));
+    }
+}
+
+// The access that is next. `write` is the write buffer.
+#[no_mangle]
+pub extern "C" fn celadonsaw_next_access(words: &[u64; 20], write: &[u8]) -> Access
+    ensures { λ r. ⌜ r ≡ access-held (now (write .entry)) (held-at (now (words .entry))) ⌝ }
+{
+    if words::ended(words) {
+        return Access {
+            kind: 0,
+            register: 0,
+            number: words::byte(words[ROW]),
+            value: words::full(words[WORD]),
+        };
+    }
+    told_access(transfer_access::next_access(words::transfer_from(words), write))
+}
+
+// A step that is not made on the words: they are decoded, and the transfer after the step is put back.
+fn by_points(words: &mut [u64; 20], value: u32, kinds: &[u8], lengths: &[u16])
+    ensures { λ _. ⌜ held-at (now (words .exit)) ≡ advanced-held (now (kinds .entry)) (now (lengths .entry))
+        (held-at (now (words .entry))) value ⌝ }
+{
+    if words::ended(words) {
+        return;
+    }
+    let t = words::transfer_from(words);
+    words::put(words, transfer_steps::advance(t, value, kinds, lengths));
+}
+
+// The transfer after that access, which read `value` (0 where it read
+// nothing); a byte received is put into `read`, the read buffer.
+#[no_mangle]
+pub extern "C" fn celadonsaw_advance(
+    words: &mut [u64; 20],
+    value: u32,
+    kinds: &[u8],
+    lengths: &[u16],
+    read: &mut [u8],
+)
+    ensures { λ _. ⌜ held-at (now (words .exit)) ≡ advanced-held (now (kinds .entry)) (now (lengths .entry))
+        (held-at (now (words .entry))) value ⌝ }
+    ensures { λ _. ⌜ now (read .exit) ≡ stored-in (now (read .entry))
+        (store-held (held-at (now (words .entry))) value) ⌝ }
+{
+    regs::access::keep(read, words_access::store(words, value));
+    by_points(words, value, kinds, lengths);
+}
+
+// Both in one call: advances, and tells the access that is next. The
+// frequent steps are here alone: with one caller their code is inlined.
+#[no_mangle]
+pub extern "C" fn celadonsaw_step(
+    words: &mut [u64; 20],
+    value: u32,
+    kinds: &[u8],
+    lengths: &[u16],
+    write: &[u8],
+    read: &mut [u8],
+) -> Access
+    ensures { λ r. ⌜ r ≡ access-held (now (write .entry)) (held-at (now (words .exit))) ⌝ }
+    ensures { λ _. ⌜ held-at (now (words .exit)) ≡ advanced-held (now (kinds .entry)) (now (lengths .entry))
+        (held-at (now (words .entry))) value ⌝ }
+    ensures { λ _. ⌜ now (read .exit) ≡ stored-in (now (read .entry))
+        (store-held (held-at (now (words .entry))) value) ⌝ }
+{
+    regs::access::keep(read, words_access::store(words, value));
+    let code = words_steps::step(words, value);
+    if code == 0 {
+        by_points(words, value, kinds, lengths);
+        let a = celadonsaw_next_access(words, write);
+        // Field by field: then the access is put together in a register, and not in memory.
+        return Access {
+            kind: a.kind,
+            register: a.register,
+            number: a.number,
+            value: a.value,
+        };
+    }
+    told_access(words_access::access_at(words, code / 8, code % 8, write))
+}

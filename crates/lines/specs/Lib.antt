@@ -1,3 +1,0 @@
--- A line of the input as a frame.
-pub mod Frame
-pub mod Short

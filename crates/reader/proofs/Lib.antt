@@ -1,4 +1,0 @@
--- What the proofs of the functions cite.
-pub mod Lines
-pub mod Long
-pub mod Steps

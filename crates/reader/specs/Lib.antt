@@ -1,2 +1,0 @@
--- What is still printed from a state of the reader on.
-pub mod Rest

@@ -1,2 +1,0 @@
--- What a run of readings leads to.
-pub mod Run

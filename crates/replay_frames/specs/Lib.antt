@@ -1,0 +1,3 @@
+-- A line of the input as a frame.
+pub mod Frame
+pub mod inner

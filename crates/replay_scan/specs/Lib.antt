@@ -1,0 +1,2 @@
+-- What bytes inside a line lead to.
+pub mod inner

@@ -1,0 +1,4 @@
+-- Definitions that only the contracts of inner functions cite: no public statement rests on believing them.
+pub mod Bytes
+pub mod Inside
+pub mod StepsOn

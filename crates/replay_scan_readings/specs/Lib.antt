@@ -1,0 +1,2 @@
+-- What a run of readings leads to.
+pub mod inner

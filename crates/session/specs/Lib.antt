@@ -1,4 +1,0 @@
--- Frames in order: what the replay is to print.
-pub mod Session
-pub mod Bounded
-pub mod Enter

@@ -1,0 +1,154 @@
+-- What holds of every slave call, over the log, the buffer and the state that it leaves: its accesses are legal,
+-- and lengths and counts are true.
+use Prim.Native.Nat.{ℕ, _<_}
+use mathlib.Core.List.{List, [], _∷_, _++_}
+use mathlib.Core.Path.{_≡_}
+use mathlib.Core.Logic.{_⊎_}
+use lib.Dec.{eqb}
+use lib.ListN.{length, take, drop, replicate}
+use Rattle.regs.specs.Registers.{DATA-CMD, TX-ABRT-SOURCE}
+use Rattle.regs.specs.Fields.{dat, tx-flush-cnt}
+use Rattle.regs.specs.Program.{if_then_else_, Outcome}
+use Rattle.regs.specs.Log.{Each, Legal, expected}
+use Rattle.regs.specs.declared.access.Entry.{Entry}
+use Rattle.regs.specs.declared.access.Entry.the-variants as E
+use Rattle.regs.specs.declared.answers.AbortReason.the-variants.{TxNotEmpty}
+use Rattle.regs.specs.declared.answers.Command.{Command}
+use Rattle.regs.specs.declared.answers.Command.the-variants.{GeneralCall, Read, WriteRead, Write}
+use Rattle.regs.specs.declared.answers.ReadStatus.the-variants.{Done, NeedMoreBytes, LeftoverBytes}
+use Rattle.regs.specs.declared.answers.Answer.{Answer}
+use Rattle.regs.specs.declared.answers.Answer.the-variants.{Heard, Responded}
+use Rattle.regs.specs.declared.answers.Reply.{Reply}
+use Rattle.regs.specs.declared.answers.Reply.the-variants.{Answered}
+use Rattle.slave.specs.I2cSlave.{Driver, FIFO-SIZE, abort-reason, listen-call, respond-to-read-call}
+use Rattle.slave.specs.I2cSlave.{respond-till-stop-call, respond-and-fill-call}
+use Rattle.slave.specs.declared.Pending.{Pending}
+use Rattle.slave.specs.declared.Pending.the-variants.{None, Byte}
+use Rattle.slave.specs.declared.SlaveState.{SlaveState}
+
+-- every access that a call logs is one that the table of registers allows
+abbrev pub LegalAccesses : Driver Answer → Type 0
+LegalAccesses p = (log readings buffer : List ℕ) (me : SlaveState) → Each Legal (expected p log readings buffer me .log)
+
+-- ---- listen
+
+-- the bytes that a log reads from DATA_CMD, in order
+abbrev pub bytes-read : List Entry → List ℕ
+bytes-read [] = []
+bytes-read (E.Read r v ∷ es) = if eqb r DATA-CMD then dat v ∷ bytes-read es else bytes-read es
+bytes-read (E.Write r v ∷ es) = bytes-read es
+bytes-read (E.Marked x ∷ es) = bytes-read es
+
+abbrev pub pending-bytes : Pending → List ℕ
+pending-bytes None = []
+pending-bytes (Byte b) = b ∷ []
+
+-- the command says n bytes
+abbrev pub Says : ℕ → Command → Type 0
+Says n (GeneralCall m) = m ≡ n
+Says n Read = ⊥
+Says n (WriteRead m) = m ≡ n
+Says n (Write m) = m ≡ n
+
+-- exactly n bytes are stored, from the buffer's front on: the pending byte first,
+-- then the bytes read from DATA_CMD in order, but for one that is pending now
+pub record Stored (n : ℕ) (before : List ℕ) (me : SlaveState) (o : Outcome SlaveState Reply) : Type 0 where
+  pub within : n < length before
+  pub bytes : pending-bytes (me .«pending_byte») ++ bytes-read (o .log) ≡ take n (o .buffer) ++ pending-bytes (o .state .«pending_byte»)
+  pub others : drop n (o .buffer) ≡ drop n before
+  pub size : length (o .buffer) ≡ length before
+
+-- an accepted Write, WriteRead or GeneralCall of n has n bytes stored
+abbrev pub TrueLength : Type 0
+TrueLength =
+    (buffer log readings : List ℕ) (me : SlaveState) (n : ℕ) (command : Command) → Says n command
+    → expected (listen-call (length buffer)) log readings buffer me .answer ≡ Answered (Heard command)
+    → Stored n buffer me (expected (listen-call (length buffer)) log readings buffer me)
+
+-- ---- the responses
+
+-- the words that a log writes to DATA_CMD, in order
+abbrev pub words-sent : List Entry → List ℕ
+words-sent [] = []
+words-sent (E.Read r v ∷ es) = words-sent es
+words-sent (E.Write r v ∷ es) = if eqb r DATA-CMD then v ∷ words-sent es else words-sent es
+words-sent (E.Marked x ∷ es) = words-sent es
+
+-- a word more in the first poll
+abbrev pub sent-first : ℕ → List (List ℕ) → List (List ℕ)
+sent-first v [] = (v ∷ []) ∷ []
+sent-first v (ws ∷ polls) = (v ∷ ws) ∷ polls
+
+-- the words that each poll writes there: a mark ends a poll
+abbrev pub words-by-poll : List Entry → List (List ℕ)
+words-by-poll [] = [] ∷ []
+words-by-poll (E.Read r v ∷ es) = words-by-poll es
+words-by-poll (E.Write r v ∷ es) = if eqb r DATA-CMD then sent-first v (words-by-poll es) else words-by-poll es
+words-by-poll (E.Marked x ∷ es) = [] ∷ words-by-poll es
+
+-- the first poll sends this chunk, or a part of it where the call stops there, and each poll after it the next
+-- chunk of the bytes that are left
+abbrev pub InChunks : List ℕ → List ℕ → List (List ℕ) → Type 0
+InChunks chunk rest [] = Unit {0}
+InChunks chunk rest (ws ∷ []) = ws ≡ take (length ws) chunk
+InChunks chunk rest (ws ∷ (next ∷ polls)) = (ws ≡ chunk) × InChunks (take FIFO-SIZE rest) (drop FIFO-SIZE rest) (next ∷ polls)
+
+abbrev pub OneChunkAPoll : Type 0
+OneChunkAPoll =
+    (bytes log readings : List ℕ) (me : SlaveState)
+    → InChunks (take FIFO-SIZE bytes) (drop FIFO-SIZE bytes) (words-by-poll (expected (respond-to-read-call bytes) log readings [] me .log))
+
+-- the words are the first of these bytes, in order
+pub record SentOf (bytes : List ℕ) (o : Outcome SlaveState Reply) : Type 0 where
+  pub unsent : List ℕ
+  pub order : words-sent (o .log) ++ unsent ≡ bytes
+
+abbrev pub BytesInOrder : Type 0
+BytesInOrder = (bytes log readings : List ℕ) (me : SlaveState) → SentOf bytes (expected (respond-to-read-call bytes) log readings [] me)
+
+-- all of them where the response is done, or needs more
+abbrev pub AllSent : Type 0
+AllSent =
+    (bytes log readings : List ℕ) (me : SlaveState)
+    → ((expected (respond-to-read-call bytes) log readings [] me .answer ≡ Answered (Responded Done))
+    ⊎ (expected (respond-to-read-call bytes) log readings [] me .answer ≡ Answered (Responded NeedMoreBytes)))
+    → words-sent (expected (respond-to-read-call bytes) log readings [] me .log) ≡ bytes
+
+-- the bytes first, then fill bytes alone
+pub record SentFilled (bytes : List ℕ) (fill : ℕ) (o : Outcome SlaveState Reply) : Type 0 where
+  pub fills : ℕ
+  pub unsent : List ℕ
+  pub order : words-sent (o .log) ++ unsent ≡ bytes ++ replicate fills fill
+
+abbrev pub FillsAfterBytes : Type 0
+FillsAfterBytes = (bytes : List ℕ) (fill : ℕ) (log readings : List ℕ) (me : SlaveState)
+    → SentFilled bytes fill (expected (respond-and-fill-call bytes fill) log readings [] me)
+
+abbrev pub FillsAlone : Type 0
+FillsAlone = (fill : ℕ) (log readings : List ℕ) (me : SlaveState)
+    → SentFilled [] fill (expected (respond-till-stop-call fill) log readings [] me)
+
+-- the last reading of a register, or v where there is none
+abbrev pub last-read : ℕ → ℕ → List Entry → ℕ
+last-read register v [] = v
+last-read register v (E.Read r w ∷ es) = last-read register (if eqb r register then w else v) es
+last-read register v (E.Write r w ∷ es) = last-read register v es
+last-read register v (E.Marked x ∷ es) = last-read register v es
+
+-- LeftoverBytes is the flush count of the abort source that was read last, which named no other reason
+pub record Leftover (n : ℕ) (o : Outcome SlaveState Reply) : Type 0 where
+  pub count : n ≡ tx-flush-cnt (last-read TX-ABRT-SOURCE 0 (o .log))
+  pub reason : abort-reason (last-read TX-ABRT-SOURCE 0 (o .log)) ≡ TxNotEmpty n
+
+abbrev pub TrueLeftover : Type 0
+TrueLeftover =
+    (bytes log readings : List ℕ) (me : SlaveState) (n : ℕ)
+    → expected (respond-to-read-call bytes) log readings [] me .answer ≡ Answered (Responded (LeftoverBytes n))
+    → Leftover n (expected (respond-to-read-call bytes) log readings [] me)
+
+abbrev pub TrueLeftoverFilled : Type 0
+TrueLeftoverFilled =
+    (bytes : List ℕ) (fill : ℕ) (log readings : List ℕ) (me : SlaveState) (n : ℕ)
+    → expected (respond-and-fill-call bytes fill) log readings [] me .answer ≡ Answered
+    (Responded (LeftoverBytes n))
+    → Leftover n (expected (respond-and-fill-call bytes fill) log readings [] me)

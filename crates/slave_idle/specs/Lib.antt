@@ -1,2 +1,0 @@
--- Polls that find nothing to do. Only contracts of inner functions cite this.
-pub mod Idles

@@ -1,2 +1,0 @@
--- Rows of tables as text.
-pub mod Rows

@@ -1,0 +1,3 @@
+-- Rows of tables as text.
+pub mod Rows
+pub mod Decimal

@@ -1,0 +1,43 @@
+// Bursts of a transfer: the accesses of whole bytes in one loop, where the readings lead straight on.
+// Each takes the place of the machine's steps between two points; what is off that way, and the end of
+// an operation, is left to the machine. The rounds of the async operations are in `transfer_fast_async`.
+pub mod read_blocking; // byte after byte
+pub mod write_blocking; // byte after byte
+
+ghost use mathlib.Core.Bool.{true};
+ghost use mathlib.Core.Path.{_≡_};
+ghost use Prim.Native.Nat.{_+_, _<_, _≤_};
+
+// How far a burst came: the byte that is next, the readings used and the entries in the log.
+pub struct Burst {
+    pub index: u16,
+    pub used: usize,
+    pub entries: usize,
+}
+
+// Whether byte i is one of an operation's, its bytes have their places, and the readings were there.
+pub fn is_within(i: u16, len: u16, at: usize, length: usize, used: usize, count: usize) -> bool
+    ensures { λ r. ⌜ (r ≡ true → (i < len) × (at + len ≤ length) × (used ≤ count)) ⌝ }
+{
+    if i >= len {
+        return false;
+    }
+    if used > count {
+        return false;
+    }
+    if at > length {
+        return false;
+    }
+    len as usize <= length - at
+}
+
+// How many bytes may go straight: before the last one, and as many as there are entries and readings for.
+fn ahead(from: u16, len: u16, entries: usize, readings: usize) -> usize
+    requires { ⌜ from < len ⌝ }
+    ensures { λ r. ⌜ (r + from + 1 ≤ len) × (r ≤ entries) × (r ≤ readings) ⌝ }
+{
+    regs_runs::least(
+        len as usize - 1 - from as usize,
+        regs_runs::least(entries, readings),
+    )
+}

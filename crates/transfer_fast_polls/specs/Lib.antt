@@ -1,0 +1,2 @@
+-- Polls of a transfer that find nothing. Only contracts of inner functions cite this.
+pub mod inner

@@ -1,2 +1,0 @@
--- Polls of a transfer that find nothing. Only contracts of inner functions cite this.
-pub mod Stays

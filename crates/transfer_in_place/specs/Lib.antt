@@ -1,2 +1,0 @@
--- Steps on words.
-pub mod InPlace

@@ -1,3 +1,0 @@
--- A point as numbers.
-pub mod Held
-pub mod Numbers

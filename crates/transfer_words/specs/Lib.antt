@@ -1,2 +1,0 @@
--- A transfer as words.
-pub mod Words

@@ -1,0 +1,2 @@
+-- A transfer as words.
+pub mod inner

@@ -1,0 +1,2 @@
+-- Steps on words.
+pub mod inner
