@@ -19,7 +19,9 @@ ghost use Rattle.answer_text.specs.inner.Shown.{shown-as};
 
 // The digits of a byte, from a table of the digits of every byte.
 fn copy2(out: &mut [u8], at: usize, pairs: &[u8], n: u32) -> usize
-    requires { ⌜ (at + 2 ≤ length (now out)) × DigitPairs (now pairs) × (n < 256) ⌝ }
+    requires { ⌜ (at + 2 ≤ length (now out))
+        × DigitPairs (now pairs)
+        × (n < 256) ⌝ }
     ensures { λ r. ⌜ Appended (now (out .entry)) at (hex2 n) 2 (now (out .exit)) r ⌝ }
 {
     let k = (n * 2) as usize;
@@ -30,7 +32,8 @@ fn copy2(out: &mut [u8], at: usize, pairs: &[u8], n: u32) -> usize
 }
 
 fn copy4(out: &mut [u8], at: usize, pairs: &[u8], n: u32) -> usize
-    requires { ⌜ (at + 4 ≤ length (now out)) × DigitPairs (now pairs) ⌝ }
+    requires { ⌜ (at + 4 ≤ length (now out))
+        × DigitPairs (now pairs) ⌝ }
     ensures { λ r. ⌜ Appended (now (out .entry)) at (hex4 n) 4 (now (out .exit)) r ⌝ }
 {
     let high = copy2(out, at, pairs, n / 256 % 256);
@@ -38,7 +41,8 @@ fn copy4(out: &mut [u8], at: usize, pairs: &[u8], n: u32) -> usize
 }
 
 fn copy8(out: &mut [u8], at: usize, pairs: &[u8], n: u32) -> usize
-    requires { ⌜ (at + 8 ≤ length (now out)) × DigitPairs (now pairs) ⌝ }
+    requires { ⌜ (at + 8 ≤ length (now out))
+        × DigitPairs (now pairs) ⌝ }
     ensures { λ r. ⌜ Appended (now (out .entry)) at (hex8 n) 8 (now (out .exit)) r ⌝ }
 {
     let high = copy4(out, at, pairs, n / 65536 % 65536);
@@ -46,7 +50,9 @@ fn copy8(out: &mut [u8], at: usize, pairs: &[u8], n: u32) -> usize
 }
 
 fn copy_word(out: &mut [u8], at: usize, pairs: &[u8], kind: u32, byte: u32, word: u32) -> usize
-    requires { ⌜ (at + 13 ≤ length (now out)) × DigitPairs (now pairs) × (byte < 256) ⌝ }
+    requires { ⌜ (at + 13 ≤ length (now out))
+        × DigitPairs (now pairs)
+        × (byte < 256) ⌝ }
     ensures { λ r. ⌜ Appended (now (out .entry)) at (word-frame kind byte word) 13 (now (out .exit)) r ⌝ }
 {
     let a = push2(out, at, kind);
@@ -86,7 +92,8 @@ fn show(e: Entry) -> Shown
 
 // Reads and writes take one way, so that which of the two comes next need not be guessed.
 fn push_entry(out: &mut [u8], at: usize, pairs: &[u8], e: Entry) -> usize
-    requires { ⌜ (at + 13 ≤ length (now out)) × DigitPairs (now pairs) ⌝ }
+    requires { ⌜ (at + 13 ≤ length (now out))
+        × DigitPairs (now pairs) ⌝ }
     ensures { λ r. ⌜ Appended (now (out .entry)) at (entry-text e) 13 (now (out .exit)) r ⌝ }
 {
     let s = show(e);
@@ -101,7 +108,9 @@ fn push_entry(out: &mut [u8], at: usize, pairs: &[u8], e: Entry) -> usize
 
 // The first n entries of a log, with a table lent.
 fn push_entries(out: &mut [u8], at: usize, log: &[u32], n: usize, pairs: &[u8]) -> usize
-    requires { ⌜ (at + 13 * n ≤ length (now out)) × (n * 2 ≤ length (now log)) × DigitPairs (now pairs) ⌝ }
+    requires { ⌜ (at + 13 * n ≤ length (now out))
+        × (n * 2 ≤ length (now log))
+        × DigitPairs (now pairs) ⌝ }
     ensures { λ r. ⌜ Appended (now (out .entry)) at
         (log-text (decode (take (n * 2) (now (log .entry)))))
         (13 * n) (now (out .exit)) r ⌝ }
@@ -120,7 +129,8 @@ fn push_entries(out: &mut [u8], at: usize, log: &[u32], n: usize, pairs: &[u8]) 
 // The first n entries of a log. The table is made once for
 // all of them: a constant is stored anew wherever it is used.
 pub fn push_log(out: &mut [u8], at: usize, log: &[u32], n: usize) -> usize
-    requires { ⌜ (at + 13 * n ≤ length (now out)) × (n * 2 ≤ length (now log)) ⌝ }
+    requires { ⌜ (at + 13 * n ≤ length (now out))
+        × (n * 2 ≤ length (now log)) ⌝ }
     ensures { λ r. ⌜ Appended (now (out .entry)) at
         (log-text (decode (take (n * 2) (now (log .entry)))))
         (13 * n) (now (out .exit)) r ⌝ }

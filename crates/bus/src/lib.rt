@@ -136,7 +136,8 @@ fn put(out: &mut [u32], at: usize, word: u32)
 
 // START or RESTART, and the address byte.
 fn put_address(out: &mut [u32], at: usize, first: u32, address: u32, d: Direction) -> usize
-    requires { ⌜ (address < 1024) × (at + 2 < 2 ^ 64) ⌝ }
+    requires { ⌜ (address < 1024)
+        × (at + 2 < 2 ^ 64) ⌝ }
     ensures { λ r. ⌜ (r ≡ at + 2)
         × (now (out .exit) ≡ sets (now (out .entry)) at
         (first ∷ (0x40000 + (address * 2 + direction-bit d)) ∷ [])) ⌝ }

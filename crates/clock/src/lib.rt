@@ -44,8 +44,11 @@ pub enum ClockPoint {
 }
 
 fn period_of(frequency: u32, clk: u32) -> u32
-    requires { ⌜ (0 < frequency) × (frequency ≤ 1000000) × (clk ≤ 1431655765) ⌝ }
-    ensures { λ r. ⌜ (r ≡ period frequency clk) × (r ≤ 1431655765) ⌝ }
+    requires { ⌜ (0 < frequency)
+        × (frequency ≤ 1000000)
+        × (clk ≤ 1431655765) ⌝ }
+    ensures { λ r. ⌜ (r ≡ period frequency clk)
+        × (r ≤ 1431655765) ⌝ }
 {
     (clk + frequency / 2) / frequency
 }
@@ -53,13 +56,15 @@ fn period_of(frequency: u32, clk: u32) -> u32
 // Three fifths of the period are low, the rest is high.
 fn low_of(p: u32) -> u32
     requires { ⌜ p ≤ 1431655765 ⌝ }
-    ensures { λ r. ⌜ (r ≡ lcnt-of p) × (r ≤ p) ⌝ }
+    ensures { λ r. ⌜ (r ≡ lcnt-of p)
+        × (r ≤ p) ⌝ }
 {
     p * 3 / 5
 }
 
 fn high_of(p: u32, low: u32) -> u32
-    requires { ⌜ (low ≡ lcnt-of p) × (low ≤ p) ⌝ }
+    requires { ⌜ (low ≡ lcnt-of p)
+        × (low ≤ p) ⌝ }
     ensures { λ r. ⌜ r ≡ hcnt-of p ⌝ }
 {
     p - low
@@ -68,7 +73,8 @@ fn high_of(p: u32, low: u32) -> u32
 // SDA's hold time in periods of the clock: 300 ns below 1 MHz, 120 ns at 1 MHz.
 fn hold_of(frequency: u32, clk: u32) -> u16
     requires { ⌜ clk ≤ 1431655765 ⌝ }
-    ensures { λ r. ⌜ (r ≡ hold frequency clk) × (r < 1000) ⌝ }
+    ensures { λ r. ⌜ (r ≡ hold frequency clk)
+        × (r < 1000) ⌝ }
 {
     if frequency < 1_000_000 {
         (clk * 3 / 10_000_000 + 1) as u16
@@ -128,7 +134,9 @@ fn if_holds(frequency: u32, clk: u32, l: u32, d: u32, s: Setting) -> Setting
 }
 
 fn setting_of(frequency: u32, clk: u32) -> Setting
-    requires { ⌜ (0 < frequency) × (frequency ≤ 1000000) × (clk ≤ 1431655765) ⌝ }
+    requires { ⌜ (0 < frequency)
+        × (frequency ≤ 1000000)
+        × (clk ≤ 1431655765) ⌝ }
     ensures { λ r. ⌜ r ≡ setting frequency clk ⌝ }
 {
     let p = period_of(frequency, clk);

@@ -39,7 +39,8 @@ fn wide(b: u8) -> u32
 
 // START or RESTART, and the address with its direction.
 fn push_addressed(out: &mut [u8], at: usize, row: usize, address: u32, read: bool) -> usize
-    requires { ⌜ (at + 13 ≤ length (now out)) × (row < 3) ⌝ }
+    requires { ⌜ (at + 13 ≤ length (now out))
+        × (row < 3) ⌝ }
     ensures { λ r. ⌜ Appended (now (out .entry)) at (addressed-text row address read) 13 (now (out .exit))
         r ⌝ }
 {
@@ -96,7 +97,8 @@ fn push_piece(out: &mut [u8], at: usize, bus: Bus, address: u32, w: u32) -> usiz
 
 // Spaces up to a column.
 fn push_spaces(out: &mut [u8], at: usize, column: usize) -> usize
-    requires { ⌜ (at ≤ length (now out)) × (column ≤ length (now out)) ⌝ }
+    requires { ⌜ (at ≤ length (now out))
+        × (column ≤ length (now out)) ⌝ }
     ensures { λ r. ⌜ Appended (now (out .entry)) at (replicate (column - at) 32) column (now (out .exit))
         r ⌝ }
 {

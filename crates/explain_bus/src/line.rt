@@ -13,7 +13,8 @@ ghost use Rattle.explain_bus.specs.inner.Words.{kind-text, word-text, wo
 
 // START, RESTART or STOP.
 pub fn push_name(out: &mut [u8], at: usize, row: usize) -> usize
-    requires { ⌜ (at + 9 ≤ length (now out)) × (row < 3) ⌝ }
+    requires { ⌜ (at + 9 ≤ length (now out))
+        × (row < 3) ⌝ }
     ensures { λ r. ⌜ Appended (now (out .entry)) at (name-text row) 9 (now (out .exit)) r ⌝ }
 {
     push_cell(out, at, b" START... RESTART. STOP....", 9, row)
@@ -71,7 +72,9 @@ fn push_sign(out: &mut [u8], at: usize, run: u32, word: u32) -> usize
 }
 
 fn push_signs(out: &mut [u8], at: usize, places: &[u32], n: usize) -> usize
-    requires { ⌜ (at + 9 * n ≤ length (now out)) × (n ≤ length (now places)) × (n ≤ 32768) ⌝ }
+    requires { ⌜ (at + 9 * n ≤ length (now out))
+        × (n ≤ length (now places))
+        × (n ≤ 32768) ⌝ }
     ensures { λ r. ⌜ Appended (now (out .entry)) at
         (words-text 0 (take n (now (places .entry))))
         (9 * n) (now (out .exit)) r ⌝ }
@@ -93,7 +96,9 @@ fn push_signs(out: &mut [u8], at: usize, places: &[u32], n: usize) -> usize
 }
 
 fn push_sequence(out: &mut [u8], places: &[u32], n: usize) -> usize
-    requires { ⌜ (n ≤ 32768) × (294921 ≤ length (now out)) × (n ≤ length (now places)) ⌝ }
+    requires { ⌜ (n ≤ 32768)
+        × (294921 ≤ length (now out))
+        × (n ≤ length (now places)) ⌝ }
     ensures { λ r. ⌜ Appended (now (out .entry)) 0
         (words-line (take n (now (places .entry))))
         294921 (now (out .exit)) r ⌝ }

@@ -25,7 +25,8 @@ pub const ROOM: usize = 16900;
 
 // What a line begins with.
 fn push_begin(out: &mut [u8], at: usize, row: usize) -> usize
-    requires { ⌜ (at + 12 ≤ length (now out)) × (row < 6) ⌝ }
+    requires { ⌜ (at + 12 ≤ length (now out))
+        × (row < 6) ⌝ }
     ensures { λ r. ⌜ Appended (now (out .entry)) at (cell words 12 row) 12 (now (out .exit)) r ⌝ }
 {
     push_cell(
@@ -38,7 +39,8 @@ fn push_begin(out: &mut [u8], at: usize, row: usize) -> usize
 }
 
 fn name_row(offset: u32) -> usize
-    ensures { λ r. ⌜ (r ≡ name-row offset) × (r < 43) ⌝ }
+    ensures { λ r. ⌜ (r ≡ name-row offset)
+        × (r < 43) ⌝ }
 {
     if offset % 4 == 0 {
         if offset < 172 {
@@ -160,7 +162,8 @@ fn push_fields(out: &mut [u8], at: usize, offset: u32, w: u32) -> usize
 
 // An access without the end of its line.
 pub fn push_words(out: &mut [u8], begin: usize, offset: u32, w: u32) -> usize
-    requires { ⌜ (512 ≤ length (now out)) × (begin < 6) ⌝ }
+    requires { ⌜ (512 ≤ length (now out))
+        × (begin < 6) ⌝ }
     ensures { λ r. ⌜ Appended (now (out .entry)) 0 (access-words begin offset w) 500 (now (out .exit)) r ⌝ }
 {
     let a = push_begin(out, 0, begin);
@@ -172,7 +175,8 @@ pub fn push_words(out: &mut [u8], begin: usize, offset: u32, w: u32) -> usize
 }
 
 fn push_access(out: &mut [u8], begin: usize, offset: u32, w: u32) -> usize
-    requires { ⌜ (512 ≤ length (now out)) × (begin < 6) ⌝ }
+    requires { ⌜ (512 ≤ length (now out))
+        × (begin < 6) ⌝ }
     ensures { λ r. ⌜ Appended (now (out .entry)) 0 (access-text begin offset w) 512 (now (out .exit)) r ⌝ }
 {
     let a = push_words(out, begin, offset, w);
@@ -180,7 +184,8 @@ fn push_access(out: &mut [u8], begin: usize, offset: u32, w: u32) -> usize
 }
 
 fn push_mark(out: &mut [u8], begin: usize) -> usize
-    requires { ⌜ (512 ≤ length (now out)) × (begin < 6) ⌝ }
+    requires { ⌜ (512 ≤ length (now out))
+        × (begin < 6) ⌝ }
     ensures { λ r. ⌜ Appended (now (out .entry)) 0 (mark-text begin) 512 (now (out .exit)) r ⌝ }
 {
     let a = push_begin(out, 0, begin);
@@ -247,7 +252,8 @@ fn push_answer(out: &mut [u8], n: u32, d: u32) -> usize
 }
 
 fn push_frame(out: &mut [u8], line: &[u8], f: Frame) -> usize
-    requires { ⌜ (16900 ≤ length (now out)) × (length (now line) ≤ 8194) ⌝ }
+    requires { ⌜ (16900 ≤ length (now out))
+        × (length (now line) ≤ 8194) ⌝ }
     ensures { λ r. ⌜ Appended (now (out .entry)) 0 (frame-text (now (line .entry)) f) 16900 (now (out .exit))
         r ⌝ }
 {

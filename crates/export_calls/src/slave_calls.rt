@@ -55,7 +55,8 @@ fn numbers(s: SlaveState) -> Slave
 }
 
 fn both(l: Left) -> SlaveReport
-    ensures { λ r. ⌜ (state-of (r .state) ≡ l .state) × (r .report ≡ report-of (l .ran)) ⌝ }
+    ensures { λ r. ⌜ (state-of (r .state) ≡ l .state)
+        × (r .report ≡ report-of (l .ran)) ⌝ }
 {
     let s = l.state;
     let ran = l.ran;

@@ -43,15 +43,19 @@ pub fn are_fitting(m: usize, n: usize) -> bool
 }
 
 fn wide(n: u16) -> usize
-    ensures { λ r. ⌜ (r ≡ n) × (r ≤ 65535) ⌝ }
+    ensures { λ r. ⌜ (r ≡ n)
+        × (r ≤ 65535) ⌝ }
 {
     n as usize
 }
 
 // One operation more, the k-th.
 fn add(t: Totals, k: usize, kind: u8, n: usize) -> Totals
-    requires { ⌜ Small t k × (k ≤ 64) × (n ≤ 65535) ⌝ }
-    ensures { λ r. ⌜ (r ≡ add-total t kind n) × Small r (k + 1) ⌝ }
+    requires { ⌜ Small t k
+        × (k ≤ 64)
+        × (n ≤ 65535) ⌝ }
+    ensures { λ r. ⌜ (r ≡ add-total t kind n)
+        × Small r (k + 1) ⌝ }
 {
     match t {
         Totals::Sums(w, r) => {
@@ -69,7 +73,8 @@ fn add(t: Totals, k: usize, kind: u8, n: usize) -> Totals
 
 // Adds the lengths of each kind.
 fn add_all(kinds: &[u8], lengths: &[u16]) -> Totals
-    requires { ⌜ (length (now kinds) ≡ length (now lengths)) × (length (now kinds) ≤ 64) ⌝ }
+    requires { ⌜ (length (now kinds) ≡ length (now lengths))
+        × (length (now kinds) ≤ 64) ⌝ }
     ensures { λ r. ⌜ r ≡ add-totals (Totals.Sums 0 0) (now (kinds .entry)) (now (lengths .entry)) ⌝ }
 {
     let mut t = Totals::Sums(0, 0);

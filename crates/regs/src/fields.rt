@@ -18,14 +18,18 @@ fn is_set(w: u32, k: u32) -> bool
 
 // A word with x in its n bits from bit k on: every change of a field is this one.
 fn with_field(w: u32, k: u32, n: u32, x: u32) -> u32
-    requires { ⌜ (n < 32) × (n + k ≤ 32) × (k < 32) × (x < 2 ^ n) ⌝ }
+    requires { ⌜ (n < 32)
+        × (n + k ≤ 32)
+        × (k < 32)
+        × (x < 2 ^ n) ⌝ }
     ensures { λ r. ⌜ r ≡ set-field k n x w ⌝ }
 {
     (w & !(((1 << n) - 1) << k)) | (x << k)
 }
 
 fn flag(b: bool) -> u32
-    ensures { λ r. ⌜ (r ≡ b2n b) × (r < 2) ⌝ }
+    ensures { λ r. ⌜ (r ≡ b2n b)
+        × (r < 2) ⌝ }
 {
     b as u32
 }

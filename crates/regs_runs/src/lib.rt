@@ -41,7 +41,8 @@ pub fn put_mark(log: &mut [u32], k: usize, mark: u8)
 
 // The smaller of two counts.
 pub fn least(a: usize, b: usize) -> usize
-    ensures { λ r. ⌜ (r ≤ a) × (r ≤ b) ⌝ }
+    ensures { λ r. ⌜ (r ≤ a)
+        × (r ≤ b) ⌝ }
 {
     if a < b { a } else { b }
 }

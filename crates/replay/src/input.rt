@@ -18,8 +18,10 @@ struct Span {
 
 // The same, or, where there are none, those of the next read. At the end of the input `end` is 0.
 fn unfed(chunk: &mut [u8], at: usize, end: usize) -> Span
-    requires { ⌜ (at ≤ end) × (end ≤ length (now chunk)) ⌝ }
-    ensures { λ r. ⌜ (r .at ≤ r .end) × (r .end ≤ length (now (chunk .exit))) ⌝ }
+    requires { ⌜ (at ≤ end)
+        × (end ≤ length (now chunk)) ⌝ }
+    ensures { λ r. ⌜ (r .at ≤ r .end)
+        × (r .end ≤ length (now (chunk .exit))) ⌝ }
 {
     if at < end {
         return Span { at, end };

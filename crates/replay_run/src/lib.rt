@@ -47,7 +47,8 @@ fn set_config(
     out: &mut [u8],
     at: usize,
 ) -> usize
-    requires { ⌜ (length (now log) ≡ LOG-WORDS) × (at + MOST-TEXT ≤ length (now out)) ⌝ }
+    requires { ⌜ (length (now log) ≡ LOG-WORDS)
+        × (at + MOST-TEXT ≤ length (now out)) ⌝ }
     ensures { λ r. ⌜ Appended (now (out .entry)) at
         (outcome-text false (replayed (set-config frequency clk) (now (readings .entry)) [] tt))
         MOST-TEXT (now (out .exit)) r ⌝ }

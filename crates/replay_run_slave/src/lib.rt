@@ -22,7 +22,8 @@ pub fn reset(
     out: &mut [u8],
     at: usize,
 ) -> Done
-    requires { ⌜ (length (now log) ≡ LOG-WORDS) × (at + MOST-TEXT ≤ length (now out)) ⌝ }
+    requires { ⌜ (length (now log) ≡ LOG-WORDS)
+        × (at + MOST-TEXT ≤ length (now out)) ⌝ }
     ensures { λ r. ⌜ Runs false
         (replayed (reset-call address «general_call») (now (readings .entry)) [] s)
         (now (out .entry)) at (now (out .exit)) r ⌝ }
@@ -67,7 +68,8 @@ pub fn respond(
     out: &mut [u8],
     at: usize,
 ) -> Done
-    requires { ⌜ (length (now log) ≡ LOG-WORDS) × (at + MOST-TEXT ≤ length (now out)) ⌝ }
+    requires { ⌜ (length (now log) ≡ LOG-WORDS)
+        × (at + MOST-TEXT ≤ length (now out)) ⌝ }
     ensures { λ r. ⌜ Runs false
         (replayed (respond-to-read-call (now (bytes .entry))) (now (readings .entry)) [] s)
         (now (out .entry)) at (now (out .exit)) r ⌝ }
@@ -87,7 +89,8 @@ pub fn fill(
     out: &mut [u8],
     at: usize,
 ) -> Done
-    requires { ⌜ (length (now log) ≡ LOG-WORDS) × (at + MOST-TEXT ≤ length (now out)) ⌝ }
+    requires { ⌜ (length (now log) ≡ LOG-WORDS)
+        × (at + MOST-TEXT ≤ length (now out)) ⌝ }
     ensures { λ r. ⌜ Runs false
         (replayed (respond-till-stop-call fill) (now (readings .entry)) [] s)
         (now (out .entry)) at (now (out .exit)) r ⌝ }
@@ -108,7 +111,8 @@ pub fn respond_and_fill(
     out: &mut [u8],
     at: usize,
 ) -> Done
-    requires { ⌜ (length (now log) ≡ LOG-WORDS) × (at + MOST-TEXT ≤ length (now out)) ⌝ }
+    requires { ⌜ (length (now log) ≡ LOG-WORDS)
+        × (at + MOST-TEXT ≤ length (now out)) ⌝ }
     ensures { λ r. ⌜ Runs false
         (replayed (respond-and-fill-call (now (bytes .entry)) fill) (now (readings .entry)) [] s)
         (now (out .entry)) at (now (out .exit)) r ⌝ }

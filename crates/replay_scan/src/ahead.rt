@@ -28,7 +28,8 @@ fn line_ahead(chunk: &[u8], i: usize) -> usize
 // The same at a place in the input where a line begins, and 8,199 elsewhere.
 pub fn fresh_line(p: Part, chunk: &[u8], i: usize) -> usize
     requires { ⌜ i ≤ length (now chunk) ⌝ }
-    ensures { λ r. ⌜ Ahead (now (chunk .entry)) i r × (r < 8199 → p ≡ Part.Text 0) ⌝ }
+    ensures { λ r. ⌜ Ahead (now (chunk .entry)) i r
+        × (r < 8199 → p ≡ Part.Text 0) ⌝ }
 {
     match p {
         Part::Stopped => 8199,

@@ -35,7 +35,9 @@ fn digits_ahead(chunk: &[u8], i: usize) -> usize
 // Keeps bytes from i on behind the n that are kept: up to the end
 // of the line, of the chunk, or of what is kept. How many they are.
 fn keep_ahead(chunk: &[u8], i: usize, n: usize, text: &mut [u8]) -> usize
-    requires { ⌜ (i ≤ length (now chunk)) × (n ≤ LONGEST-KEPT) × (length (now text) ≡ LONGEST-KEPT) ⌝ }
+    requires { ⌜ (i ≤ length (now chunk))
+        × (n ≤ LONGEST-KEPT)
+        × (length (now text) ≡ LONGEST-KEPT) ⌝ }
     ensures { λ r. ⌜ KeptAhead (now (chunk .entry)) i n (now (text .entry)) (now (text .exit)) r ⌝ }
 {
     let left = chunk.len() - i;
@@ -55,7 +57,9 @@ fn keep_ahead(chunk: &[u8], i: usize, n: usize, text: &mut [u8]) -> usize
 
 // Reads from i on the bytes that go on with the line.
 pub fn run(chunk: &[u8], i: usize, p: Part, text: &mut [u8]) -> Moved
-    requires { ⌜ (i ≤ length (now chunk)) × PartSound p (now text) × (length (now text) ≡ LONGEST-KEPT) ⌝ }
+    requires { ⌜ (i ≤ length (now chunk))
+        × PartSound p (now text)
+        × (length (now text) ≡ LONGEST-KEPT) ⌝ }
     ensures { λ r. ⌜ MovedAs p (now (chunk .entry)) i (now (text .entry)) (now (text .exit)) r ⌝ }
 {
     match p {

@@ -27,7 +27,9 @@ pub struct Fed {
 
 // A byte that is no LF.
 fn one(x: u8, s: State, text: &mut [u8], out: &mut [u8], at: usize) -> Turn
-    requires { ⌜ NoEnd x × (length (now text) ≡ LONGEST-KEPT) × (at + MOST-TEXT ≤ length (now out)) ⌝ }
+    requires { ⌜ NoEnd x
+        × (length (now text) ≡ LONGEST-KEPT)
+        × (at + MOST-TEXT ≤ length (now out)) ⌝ }
     ensures { λ r. ⌜ WentInside s (now (text .entry)) (now (out .entry)) at (x ∷ []) (r .state)
         (now (text .exit)) (now (out .exit)) (r .made) [] ⌝ }
 {

@@ -32,7 +32,8 @@ struct Pair {
 // The value of a digit, from a table, and 128 of every other byte.
 fn digit_in(values: &[u8], c: u8) -> u64
     requires { ⌜ DigitValues (now values) ⌝ }
-    ensures { λ r. ⌜ (r ≡ marked c) × (r ≤ 128) ⌝ }
+    ensures { λ r. ⌜ (r ≡ marked c)
+        × (r ≤ 128) ⌝ }
 {
     let at = c as usize;
     values[at] as u64
@@ -40,7 +41,8 @@ fn digit_in(values: &[u8], c: u8) -> u64
 
 // Two bytes from `at` on by the table: their sum, and the number that they write.
 fn two_bytes(values: &[u8], chunk: &[u8], at: usize) -> Pair
-    requires { ⌜ DigitValues (now values) × (at + 2 ≤ length (now chunk)) ⌝ }
+    requires { ⌜ DigitValues (now values)
+        × (at + 2 ≤ length (now chunk)) ⌝ }
     ensures { λ r. ⌜ PairAt (now (chunk .entry)) at r ⌝ }
 {
     let high = digit_in(values, chunk[at]);
@@ -53,7 +55,8 @@ fn two_bytes(values: &[u8], chunk: &[u8], at: usize) -> Pair
 
 // The number in 8 bytes from `at` on, if they are digits: 8 digits make less than 128 together.
 fn word(values: &[u8], chunk: &[u8], at: usize) -> Value
-    requires { ⌜ DigitValues (now values) × (at + 8 ≤ length (now chunk)) ⌝ }
+    requires { ⌜ DigitValues (now values)
+        × (at + 8 ≤ length (now chunk)) ⌝ }
     ensures { λ r. ⌜ WordAt (now (chunk .entry)) at r ⌝ }
 {
     let a = two_bytes(values, chunk, at);
@@ -70,7 +73,8 @@ fn word(values: &[u8], chunk: &[u8], at: usize) -> Value
 
 // The word of the reading whose line begins at i, if one does.
 fn reading_at(values: &[u8], chunk: &[u8], i: usize) -> Value
-    requires { ⌜ DigitValues (now values) × (i ≤ length (now chunk)) ⌝ }
+    requires { ⌜ DigitValues (now values)
+        × (i ≤ length (now chunk)) ⌝ }
     ensures { λ r. ⌜ ReadingAt (now (chunk .entry)) i r ⌝ }
 {
     let left = chunk.len() - i;
@@ -122,7 +126,8 @@ fn run_by(
 // The same, with the table, which is made once for the
 // whole run: a constant is stored anew wherever it is used.
 fn run(chunk: &[u8], i: usize, first: usize, number: u32, readings: &mut [u32]) -> Ran
-    requires { ⌜ (i ≤ length (now chunk)) × (length (now readings) ≡ MOST-READINGS) ⌝ }
+    requires { ⌜ (i ≤ length (now chunk))
+        × (length (now readings) ≡ MOST-READINGS) ⌝ }
     ensures { λ r. ⌜ Run (now (chunk .entry)) i first number (now (readings .entry)) (r .used) (r .count)
         (r .line) (now (readings .exit)) ⌝ }
 {
@@ -167,7 +172,8 @@ fn is_ready(s: State) -> bool
 
 // Reads the readings that stand at i, if any do.
 pub fn run_readings(chunk: &[u8], i: usize, s: State, readings: &mut [u32]) -> Ran
-    requires { ⌜ (i ≤ length (now chunk)) × (length (now readings) ≡ MOST-READINGS) ⌝ }
+    requires { ⌜ (i ≤ length (now chunk))
+        × (length (now readings) ≡ MOST-READINGS) ⌝ }
     ensures { λ r. ⌜ RanAs s (now (chunk .entry)) i (now (readings .entry)) (now (readings .exit)) r ⌝ }
 {
     let call = s.call;

@@ -22,7 +22,9 @@ pub fn enter_pairs(
     bytes: &mut [u8],
     at: usize,
 ) -> Entered
-    requires { ⌜ Small o × (length (now bytes) ≡ 4096) × (length (now ds) ≤ LONGEST-KEPT) ⌝ }
+    requires { ⌜ Small o
+        × (length (now bytes) ≡ 4096)
+        × (length (now ds) ≤ LONGEST-KEPT) ⌝ }
     ensures { λ r. ⌜ PairsAs l (now (ds .entry)) o s (now (kinds .entry)) (now (lengths .entry))
         (now (bytes .entry)) (now (kinds .exit)) (now (lengths .exit)) (now (bytes .exit)) at r ⌝ }
 {

@@ -101,7 +101,8 @@ pub fn enter_bytes(
     lengths: &mut [u16],
     at: usize,
 ) -> Entered
-    requires { ⌜ Small o × (k ≤ LONGEST-KEPT) ⌝ }
+    requires { ⌜ Small o
+        × (k ≤ LONGEST-KEPT) ⌝ }
     ensures { λ r. ⌜ (r ≡ bytes-entered (taken-by l o) (added-to (o .counts) k 0) s at)
         × (now (kinds .exit) ≡ set (now (kinds .entry)) (o .counts .ops) 1)
         × (now (lengths .exit) ≡ set (now (lengths .entry)) (o .counts .ops) k) ⌝ }

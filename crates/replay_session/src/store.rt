@@ -31,7 +31,9 @@ pub fn over(n: Counts) -> Counts
 }
 
 fn is_too_many(n: Counts, b: usize, m: usize) -> bool
-    requires { ⌜ Within n × (b ≤ 65535) × (m ≤ 65535) ⌝ }
+    requires { ⌜ Within n
+        × (b ≤ 65535)
+        × (m ≤ 65535) ⌝ }
     ensures { λ r. ⌜ r ≡ too-many n b m ⌝ }
 {
     (64 < n.ops + 1) | ((4096 < n.bytes + b) | (4096 < n.reads + m))
@@ -39,7 +41,9 @@ fn is_too_many(n: Counts, b: usize, m: usize) -> bool
 
 // One more operation, of b bytes to write and m to read.
 pub fn added(n: Counts, b: usize, m: usize) -> Counts
-    requires { ⌜ Within n × (b ≤ 65535) × (m ≤ 65535) ⌝ }
+    requires { ⌜ Within n
+        × (b ≤ 65535)
+        × (m ≤ 65535) ⌝ }
     ensures { λ r. ⌜ r ≡ added-to n b m ⌝ }
 {
     if n.large {

@@ -125,7 +125,8 @@ fn lengthen(x: u8, s: State, text: &[u8], out: &mut [u8], at: usize) -> Turn
 
 // A byte of a line of which n bytes are kept.
 pub fn keep(x: u8, n: usize, s: State, text: &mut [u8], out: &mut [u8], at: usize) -> Turn
-    requires { ⌜ (length (now text) ≡ LONGEST-KEPT) × (at + MOST-TEXT ≤ length (now out)) ⌝ }
+    requires { ⌜ (length (now text) ≡ LONGEST-KEPT)
+        × (at + MOST-TEXT ≤ length (now out)) ⌝ }
     ensures { λ r. ⌜ KeptAs s n x (now (text .entry)) at (now (out .entry)) (now (out .exit)) r
         × (now (text .exit) ≡ set (now (text .entry)) n x) ⌝ }
 {

@@ -23,7 +23,9 @@ pub struct Ahead {
 }
 
 fn came(point: Point, used: usize, entries: usize) -> Ahead
-    ensures { λ r. ⌜ (r .point ≡ point) × (r .used ≡ used) × (r .entries ≡ entries) ⌝ }
+    ensures { λ r. ⌜ (r .point ≡ point)
+        × (r .used ≡ used)
+        × (r .entries ≡ entries) ⌝ }
 {
     Ahead {
         point,

@@ -20,7 +20,8 @@ pub const MOST: usize = 32768;
 pub const ROOM: usize = 53000;
 
 fn width_of(kind: u32) -> u32
-    ensures { λ r. ⌜ (r ≡ kind-width kind) × (r ≤ 108) ⌝ }
+    ensures { λ r. ⌜ (r ≡ kind-width kind)
+        × (r ≤ 108) ⌝ }
 {
     if kind == 1 {
         return 24;
@@ -36,22 +37,29 @@ fn width_of(kind: u32) -> u32
 
 // Where a sign stands: in the row of the one before it, or at the start of the next.
 fn column_of(x: u32, w: u32) -> u32
-    requires { ⌜ (x ≤ 800) × (w ≤ 108) ⌝ }
-    ensures { λ r. ⌜ (r ≡ column x w) × (r + w ≤ 800) ⌝ }
+    requires { ⌜ (x ≤ 800)
+        × (w ≤ 108) ⌝ }
+    ensures { λ r. ⌜ (r ≡ column x w)
+        × (r + w ≤ 800) ⌝ }
 {
     if x + w > 800 { 60 } else { x }
 }
 
 fn row_of(x: u32, y: u32, w: u32) -> u32
-    requires { ⌜ (x ≤ 800) × (w ≤ 108) × (y ≤ 200000) ⌝ }
-    ensures { λ r. ⌜ (r ≡ row x y w) × (r ≤ y + 120) ⌝ }
+    requires { ⌜ (x ≤ 800)
+        × (w ≤ 108)
+        × (y ≤ 200000) ⌝ }
+    ensures { λ r. ⌜ (r ≡ row x y w)
+        × (r ≤ y + 120) ⌝ }
 {
     if x + w > 800 { y + 120 } else { y }
 }
 
 fn last_row(places: &[u32], n: usize) -> u32
-    requires { ⌜ (n ≤ length (now places)) × (n ≤ 256) ⌝ }
-    ensures { λ r. ⌜ (r ≡ words-last 60 70 (take n (now (places .entry)))) × (r ≤ 70 + 120 * n) ⌝ }
+    requires { ⌜ (n ≤ length (now places))
+        × (n ≤ 256) ⌝ }
+    ensures { λ r. ⌜ (r ≡ words-last 60 70 (take n (now (places .entry))))
+        × (r ≤ 70 + 120 * n) ⌝ }
 {
     let mut x: u32 = 60;
     let mut y: u32 = 70;
@@ -67,7 +75,9 @@ fn last_row(places: &[u32], n: usize) -> u32
 }
 
 fn push_signs(out: &mut [u8], at: usize, places: &[u32], n: usize) -> usize
-    requires { ⌜ (at + 196 * n ≤ length (now out)) × (n ≤ length (now places)) × (n ≤ 256) ⌝ }
+    requires { ⌜ (at + 196 * n ≤ length (now out))
+        × (n ≤ length (now places))
+        × (n ≤ 256) ⌝ }
     ensures { λ r. ⌜ Appended (now (out .entry)) at
         (words-text 60 70 (take n (now (places .entry))))
         (196 * n) (now (out .exit)) r ⌝ }
@@ -104,7 +114,9 @@ fn push_note(out: &mut [u8], at: usize, y: u32, n: u32) -> usize
 }
 
 fn push_svg(out: &mut [u8], places: &[u32], n: usize, entries: u32) -> usize
-    requires { ⌜ (53000 ≤ length (now out)) × (n ≤ length (now places)) × (n ≤ 256) ⌝ }
+    requires { ⌜ (53000 ≤ length (now out))
+        × (n ≤ length (now places))
+        × (n ≤ 256) ⌝ }
     ensures { λ r. ⌜ Appended (now (out .entry)) 0
         (words-svg (take n (now (places .entry))) entries)
         53000 (now (out .exit)) r ⌝ }
@@ -117,7 +129,8 @@ fn push_svg(out: &mut [u8], places: &[u32], n: usize, entries: u32) -> usize
 }
 
 fn drawn(n: usize) -> usize
-    ensures { λ r. ⌜ (r ≡ (if ltb n 256 then n else 256)) × (r ≤ 256) ⌝ }
+    ensures { λ r. ⌜ (r ≡ (if ltb n 256 then n else 256))
+        × (r ≤ 256) ⌝ }
 {
     if n < DRAWN { n } else { DRAWN }
 }

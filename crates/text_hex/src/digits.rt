@@ -32,7 +32,8 @@ pub fn digit(c: u8) -> u8
 
 // The number in n bytes of a line from `at` on.
 pub fn number(line: &[u8], at: usize, n: usize) -> Value
-    requires { ⌜ (at + n ≤ length (now line)) × (n ≤ 8) ⌝ }
+    requires { ⌜ (at + n ≤ length (now line))
+        × (n ≤ 8) ⌝ }
     ensures { λ r. ⌜ NumberAs (now (line .entry)) at n r ⌝ }
 {
     let mut v: u32 = 0;
@@ -82,7 +83,8 @@ fn digit_value(c: u8) -> u8
 
 // The byte that the pair of digits i writes.
 fn pair(ds: &[u8], i: usize) -> u8
-    requires { ⌜ (whole-pairs (now ds) ≡ true) × (i < length (now ds) / 2) ⌝ }
+    requires { ⌜ (whole-pairs (now ds) ≡ true)
+        × (i < length (now ds) / 2) ⌝ }
     ensures { λ r. ⌜ r ≡ getD (values (now (ds .entry))) i 0 ⌝ }
 {
     let high = digit_value(ds[2 * i]);
@@ -101,7 +103,8 @@ pub fn put(bytes: &mut [u8], at: usize, v: u8)
 
 // The bytes that pairs of digits write, put at `at` of a lent buffer where it has room for them.
 pub fn put_bytes(ds: &[u8], bytes: &mut [u8], at: usize)
-    requires { ⌜ (whole-pairs (now ds) ≡ true) × (at ≤ 4096) ⌝ }
+    requires { ⌜ (whole-pairs (now ds) ≡ true)
+        × (at ≤ 4096) ⌝ }
     ensures { λ _. ⌜ PutAt (now (ds .entry)) at (now (bytes .entry)) (now (bytes .exit)) ⌝ }
 {
     let n = ds.len() / 2;

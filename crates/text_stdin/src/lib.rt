@@ -35,7 +35,10 @@ struct Part {
 
 // Before the first read.
 pub fn start() -> Source
-    ensures { λ r. ⌜ (r .at ≡ 0) × (r .filled ≡ 0) × (r .lines ≡ 0) × (r .ended ≡ false) ⌝ }
+    ensures { λ r. ⌜ (r .at ≡ 0)
+        × (r .filled ≡ 0)
+        × (r .lines ≡ 0)
+        × (r .ended ≡ false) ⌝ }
 {
     Source {
         at: 0,
@@ -48,7 +51,9 @@ pub fn start() -> Source
 // Copies what stands in the chunk up to LF behind the `held`
 // bytes of the line. What is past the buffer's end is dropped.
 fn take(chunk: &[u8], at: usize, filled: usize, held: usize, line: &mut [u8]) -> Part
-    requires { ⌜ (at ≤ filled) × (filled ≤ length (now chunk)) × (held ≤ length (now line)) ⌝ }
+    requires { ⌜ (at ≤ filled)
+        × (filled ≤ length (now chunk))
+        × (held ≤ length (now line)) ⌝ }
     ensures { λ r. ⌜ Took
         (slice at filled (now (chunk .entry)))
         held (now (line .entry)) (now (chunk .entry)) (now (line .exit)) r ⌝ }
@@ -83,7 +88,8 @@ fn take(chunk: &[u8], at: usize, filled: usize, held: usize, line: &mut [u8]) ->
 // the input. A proved loop ends, so it counts them down from a number that no run uses up.
 fn reads_left(turns: u64, ended: bool, last: bool) -> u64
     requires { ⌜ 0 < turns ⌝ }
-    ensures { λ r. ⌜ (r < turns) × (0 < r → (ended ≡ false) × (last ≡ false)) ⌝ }
+    ensures { λ r. ⌜ (r < turns)
+        × (0 < r → (ended ≡ false) × (last ≡ false)) ⌝ }
 {
     if ended {
         return 0;

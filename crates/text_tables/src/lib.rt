@@ -10,7 +10,8 @@ ghost use Rattle.text_tables.specs.Rows.{cell, flag, flags, spaced};
 
 // The text of a row: it ends at a dot.
 pub fn push_cell(out: &mut [u8], at: usize, table: &[u8], width: usize, row: usize) -> usize
-    requires { ⌜ (at + width ≤ length (now out)) × (row * width + width ≤ length (now table)) ⌝ }
+    requires { ⌜ (at + width ≤ length (now out))
+        × (row * width + width ≤ length (now table)) ⌝ }
     ensures { λ r. ⌜ Appended (now (out .entry)) at
         (cell (now (table .entry)) width row)
         width (now (out .exit)) r ⌝ }
@@ -31,7 +32,8 @@ pub fn push_cell(out: &mut [u8], at: usize, table: &[u8], width: usize, row: usi
 
 // The name of a flag that is set, behind a space.
 fn push_flag(out: &mut [u8], at: usize, table: &[u8], row: usize, given: bool) -> usize
-    requires { ⌜ (at + 25 ≤ length (now out)) × (row * 24 + 24 ≤ length (now table)) ⌝ }
+    requires { ⌜ (at + 25 ≤ length (now out))
+        × (row * 24 + 24 ≤ length (now table)) ⌝ }
     ensures { λ r. ⌜ Appended (now (out .entry)) at
         (flag (now (table .entry)) row given)
         25 (now (out .exit)) r ⌝ }
@@ -45,7 +47,8 @@ fn push_flag(out: &mut [u8], at: usize, table: &[u8], row: usize, given: bool) -
 
 // The names of the flags that are set among the first n bits of a word.
 pub fn push_flags(out: &mut [u8], at: usize, table: &[u8], n: usize, w: u32) -> usize
-    requires { ⌜ (at + 25 * n ≤ length (now out)) × (n * 24 ≤ length (now table)) ⌝ }
+    requires { ⌜ (at + 25 * n ≤ length (now out))
+        × (n * 24 ≤ length (now table)) ⌝ }
     ensures { λ r. ⌜ Appended (now (out .entry)) at (flags (now (table .entry)) n 0 w) (25 * n)
         (now (out .exit)) r ⌝ }
 {

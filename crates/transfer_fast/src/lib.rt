@@ -23,7 +23,9 @@ pub struct Ahead {
 }
 
 fn came(step: Step, used: usize, entries: usize) -> Ahead
-    ensures { λ r. ⌜ (r .step ≡ step) × (r .used ≡ used) × (r .entries ≡ entries) ⌝ }
+    ensures { λ r. ⌜ (r .step ≡ step)
+        × (r .used ≡ used)
+        × (r .entries ≡ entries) ⌝ }
 {
     Ahead {
         step,
@@ -42,7 +44,8 @@ fn read_from(
     entries: usize,
     buffer: &mut [u8],
 ) -> Ahead
-    requires { ⌜ (t .point ≡ Point.ReadBlocking (ReadPoint.Room i)) × (entries ≤ length (now log) / 2) ⌝ }
+    requires { ⌜ (t .point ≡ Point.ReadBlocking (ReadPoint.Room i))
+        × (entries ≤ length (now log) / 2) ⌝ }
     ensures { λ r. ⌜ ForAny
         (λ (bytes : List ℕ). GoesAhead bytes (now (readings .entry)) (now (log .entry)) (now (buffer .entry))
         (now (log .exit)) (now (buffer .exit)) t used entries r) ⌝ }
@@ -75,7 +78,8 @@ fn write_from(
     log: &mut [u32],
     entries: usize,
 ) -> Ahead
-    requires { ⌜ (t .point ≡ Point.WriteBlocking (WritePoint.Send i)) × (entries ≤ length (now log) / 2) ⌝ }
+    requires { ⌜ (t .point ≡ Point.WriteBlocking (WritePoint.Send i))
+        × (entries ≤ length (now log) / 2) ⌝ }
     ensures { λ r. ⌜ ForAny
         (λ (buffer : List ℕ). GoesAhead (now (bytes .entry)) (now (readings .entry)) (now (log .entry)) buffer
         (now (log .exit)) buffer t used entries r) ⌝ }
@@ -149,7 +153,8 @@ fn fills_from(
     log: &mut [u32],
     entries: usize,
 ) -> Ahead
-    requires { ⌜ (t .point ≡ Point.WriteAsync (FillPoint.Free i)) × (entries ≤ length (now log) / 2) ⌝ }
+    requires { ⌜ (t .point ≡ Point.WriteAsync (FillPoint.Free i))
+        × (entries ≤ length (now log) / 2) ⌝ }
     ensures { λ r. ⌜ ForAny
         (λ (buffer : List ℕ). GoesAhead (now (bytes .entry)) (now (readings .entry)) (now (log .entry)) buffer
         (now (log .exit)) buffer t used entries r) ⌝ }

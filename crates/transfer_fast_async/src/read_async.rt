@@ -25,7 +25,9 @@ fn queue_words(
     log: &mut [u32],
     entries: usize,
 )
-    requires { ⌜ (0 < words) × (words ≤ queue) × (entries + words ≤ length (now log) / 2) ⌝ }
+    requires { ⌜ (0 < words)
+        × (words ≤ queue)
+        × (entries + words ≤ length (now log) / 2) ⌝ }
     ensures { λ _. ⌜ Queued len «send_stop» restart queue words entries (now (log .entry))
         (now (log .exit)) ⌝ }
 {
@@ -113,7 +115,8 @@ fn planned(
     entries: usize,
     room: usize,
 ) -> Plan
-    requires { ⌜ (used ≤ length (now readings)) × (entries ≤ room) ⌝ }
+    requires { ⌜ (used ≤ length (now readings))
+        × (entries ≤ room) ⌝ }
     ensures { λ r. ⌜ (0 < r .words
         → StraightRound (now (readings .entry)) used entries room remaining queue (r .words) (r .count)) ⌝ }
 {

@@ -39,7 +39,9 @@ fn is_straight(space: u16, readings: &[u32], used: usize, room: usize) -> bool
 // does not, or readings or log are too short for it. A round whose last place takes the last
 // byte is not the last one: as in the Rust a poll follows, and the next round finds no byte.
 fn planned(i: u16, len: u16, readings: &[u32], used: usize, entries: usize, room: usize) -> u16
-    requires { ⌜ (i ≤ len) × (used ≤ length (now readings)) × (entries ≤ room) ⌝ }
+    requires { ⌜ (i ≤ len)
+        × (used ≤ length (now readings))
+        × (entries ≤ room) ⌝ }
     ensures { λ r. ⌜ (0 < r → StraightFill (now (readings .entry)) used entries room i len r) ⌝ }
 {
     let rest = len - i;

@@ -34,7 +34,9 @@ pub fn is_within(i: u16, len: u16, at: usize, length: usize, used: usize, count:
 // How many bytes may go straight: before the last one, and as many as there are entries and readings for.
 fn ahead(from: u16, len: u16, entries: usize, readings: usize) -> usize
     requires { ⌜ from < len ⌝ }
-    ensures { λ r. ⌜ (r + from + 1 ≤ len) × (r ≤ entries) × (r ≤ readings) ⌝ }
+    ensures { λ r. ⌜ (r + from + 1 ≤ len)
+        × (r ≤ entries)
+        × (r ≤ readings) ⌝ }
 {
     regs_runs::least(
         len as usize - 1 - from as usize,

@@ -23,7 +23,8 @@ pub struct Polled {
 
 // No poll.
 fn none(used: usize, entries: usize) -> Polled
-    ensures { λ r. ⌜ (r .used ≡ used) × (r .entries ≡ entries) ⌝ }
+    ensures { λ r. ⌜ (r .used ≡ used)
+        × (r .entries ≡ entries) ⌝ }
 {
     Polled { used, entries }
 }

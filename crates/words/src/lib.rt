@@ -71,13 +71,15 @@ pub fn sized(words: &[u64; 20])
 }
 
 fn wide16(n: u16) -> u64
-    ensures { λ r. ⌜ (r ≡ n) × (r < 2 ^ 16) ⌝ }
+    ensures { λ r. ⌜ (r ≡ n)
+        × (r < 2 ^ 16) ⌝ }
 {
     n as u64
 }
 
 fn wide32(n: u32) -> u64
-    ensures { λ r. ⌜ (r ≡ n) × (r < 2 ^ 32) ⌝ }
+    ensures { λ r. ⌜ (r ≡ n)
+        × (r < 2 ^ 32) ⌝ }
 {
     n as u64
 }

@@ -45,21 +45,24 @@ ghost use Rattle.words_points.specs.Held.{store-held};
 ghost use Rattle.words.specs.inner.Words.{transfer-in, held-at};
 
 fn at_setup(words: &[u64; 20], row: u64) -> Next
-    requires { ⌜ (getD (now words) 0 0 ≡ 0) × (getD (now words) 1 0 ≡ row) ⌝ }
+    requires { ⌜ (getD (now words) 0 0 ≡ 0)
+        × (getD (now words) 1 0 ≡ row) ⌝ }
     ensures { λ r. ⌜ ((bytes : List ℕ) → r ≡ next-of bytes (transfer-in (now (words .entry)))) ⌝ }
 {
     next_setup(setup_of(row), half(words[ADDRESS]))
 }
 
 fn at_abort(words: &[u64; 20], row: u64) -> Next
-    requires { ⌜ (getD (now words) 0 0 ≡ 1) × (getD (now words) 1 0 ≡ row) ⌝ }
+    requires { ⌜ (getD (now words) 0 0 ≡ 1)
+        × (getD (now words) 1 0 ≡ row) ⌝ }
     ensures { λ r. ⌜ ((bytes : List ℕ) → r ≡ next-of bytes (transfer-in (now (words .entry)))) ⌝ }
 {
     next_abort(abort_of(row, full(words[WORD])))
 }
 
 fn at_read(words: &[u64; 20], row: u64) -> Next
-    requires { ⌜ (getD (now words) 0 0 ≡ 2) × (getD (now words) 1 0 ≡ row) ⌝ }
+    requires { ⌜ (getD (now words) 0 0 ≡ 2)
+        × (getD (now words) 1 0 ≡ row) ⌝ }
     ensures { λ r. ⌜ ((bytes : List ℕ) → r ≡ next-of bytes (transfer-in (now (words .entry)))) ⌝ }
 {
     let p = read_of(row, half(words[INDEX]));
@@ -67,7 +70,8 @@ fn at_read(words: &[u64; 20], row: u64) -> Next
 }
 
 fn at_write(words: &[u64; 20], row: u64, bytes: &[u8]) -> Next
-    requires { ⌜ (getD (now words) 0 0 ≡ 3) × (getD (now words) 1 0 ≡ row) ⌝ }
+    requires { ⌜ (getD (now words) 0 0 ≡ 3)
+        × (getD (now words) 1 0 ≡ row) ⌝ }
     ensures { λ r. ⌜ r ≡ next-of (now (bytes .entry)) (transfer-in (now (words .entry))) ⌝ }
 {
     let p = write_of(row, who_from(words));
@@ -76,7 +80,8 @@ fn at_write(words: &[u64; 20], row: u64, bytes: &[u8]) -> Next
 }
 
 fn at_round(words: &[u64; 20], row: u64) -> Next
-    requires { ⌜ (getD (now words) 0 0 ≡ 4) × (getD (now words) 1 0 ≡ row) ⌝ }
+    requires { ⌜ (getD (now words) 0 0 ≡ 4)
+        × (getD (now words) 1 0 ≡ row) ⌝ }
     ensures { λ r. ⌜ ((bytes : List ℕ) → r ≡ next-of bytes (transfer-in (now (words .entry)))) ⌝ }
 {
     let p = queue_of(row, who_from(words));
@@ -84,7 +89,8 @@ fn at_round(words: &[u64; 20], row: u64) -> Next
 }
 
 fn at_fill(words: &[u64; 20], row: u64, bytes: &[u8]) -> Next
-    requires { ⌜ (getD (now words) 0 0 ≡ 5) × (getD (now words) 1 0 ≡ row) ⌝ }
+    requires { ⌜ (getD (now words) 0 0 ≡ 5)
+        × (getD (now words) 1 0 ≡ row) ⌝ }
     ensures { λ r. ⌜ r ≡ next-of (now (bytes .entry)) (transfer-in (now (words .entry))) ⌝ }
 {
     let p = fill_of(row, half(words[INDEX]), half(words[COUNT]));
@@ -93,14 +99,16 @@ fn at_fill(words: &[u64; 20], row: u64, bytes: &[u8]) -> Next
 }
 
 fn at_wait(words: &[u64; 20], row: u64) -> Next
-    requires { ⌜ (getD (now words) 0 0 ≡ 6) × (getD (now words) 1 0 ≡ row) ⌝ }
+    requires { ⌜ (getD (now words) 0 0 ≡ 6)
+        × (getD (now words) 1 0 ≡ row) ⌝ }
     ensures { λ r. ⌜ ((bytes : List ℕ) → r ≡ next-of bytes (transfer-in (now (words .entry)))) ⌝ }
 {
     next_wait(wait_of(row, full(words[WORD]), who_from(words)))
 }
 
 fn at_stop(words: &[u64; 20], row: u64) -> Next
-    requires { ⌜ (getD (now words) 0 0 ≡ 7) × (getD (now words) 1 0 ≡ row) ⌝ }
+    requires { ⌜ (getD (now words) 0 0 ≡ 7)
+        × (getD (now words) 1 0 ≡ row) ⌝ }
     ensures { λ r. ⌜ ((bytes : List ℕ) → r ≡ next-of bytes (transfer-in (now (words .entry)))) ⌝ }
 {
     let who = who_from(words);
@@ -111,7 +119,8 @@ fn at_stop(words: &[u64; 20], row: u64) -> Next
 // The access at the words' group and row, which are handed over beside the
 // words, so that the compiler knows them where a step has just set them.
 pub fn access_at(words: &[u64; 20], group: u64, row: u64, bytes: &[u8]) -> Next
-    requires { ⌜ (getD (now words) 0 0 ≡ group) × (getD (now words) 1 0 ≡ row) ⌝ }
+    requires { ⌜ (getD (now words) 0 0 ≡ group)
+        × (getD (now words) 1 0 ≡ row) ⌝ }
     ensures { λ r. ⌜ r ≡ next-of (now (bytes .entry)) (transfer-in (now (words .entry))) ⌝ }
 {
     if group == 0 {

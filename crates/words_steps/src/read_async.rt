@@ -22,7 +22,8 @@ ghost use Rattle.words_steps.specs.inner.InPlace.{InPlace};
 
 // From `Capacity` to so many words to queue, or to `Level`.
 fn capacity(words: &mut [u64; 20], v: u32) -> u64
-    requires { ⌜ (getD (now words) 0 0 ≡ 4) × (getD (now words) 1 0 ≡ 0) ⌝ }
+    requires { ⌜ (getD (now words) 0 0 ≡ 4)
+        × (getD (now words) 1 0 ≡ 0) ⌝ }
     ensures { λ r. ⌜ InPlace (now (words .entry)) v r (now (words .exit)) ⌝ }
 {
     sized(words);
@@ -44,7 +45,8 @@ fn capacity(words: &mut [u64; 20], v: u32) -> u64
 
 // A word was queued.
 fn queued(words: &mut [u64; 20], v: u32) -> u64
-    requires { ⌜ (getD (now words) 0 0 ≡ 4) × (getD (now words) 1 0 ≡ 1) ⌝ }
+    requires { ⌜ (getD (now words) 0 0 ≡ 4)
+        × (getD (now words) 1 0 ≡ 1) ⌝ }
     ensures { λ r. ⌜ InPlace (now (words .entry)) v r (now (words .exit)) ⌝ }
 {
     sized(words);
@@ -60,7 +62,8 @@ fn queued(words: &mut [u64; 20], v: u32) -> u64
 
 // A byte was fetched: the next one, or the next round where bytes remain.
 fn fetched(words: &mut [u64; 20], v: u32) -> u64
-    requires { ⌜ (getD (now words) 0 0 ≡ 4) × (getD (now words) 1 0 ≡ 3) ⌝ }
+    requires { ⌜ (getD (now words) 0 0 ≡ 4)
+        × (getD (now words) 1 0 ≡ 3) ⌝ }
     ensures { λ r. ⌜ InPlace (now (words .entry)) v r (now (words .exit)) ⌝ }
 {
     sized(words);

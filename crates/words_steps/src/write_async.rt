@@ -18,7 +18,8 @@ ghost use Rattle.words_steps.specs.inner.InPlace.{InPlace};
 
 // From `Free` to so many places to fill, or to a look for an abort where none is free.
 fn free(words: &mut [u64; 20], v: u32) -> u64
-    requires { ⌜ (getD (now words) 0 0 ≡ 5) × (getD (now words) 1 0 ≡ 0) ⌝ }
+    requires { ⌜ (getD (now words) 0 0 ≡ 5)
+        × (getD (now words) 1 0 ≡ 0) ⌝ }
     ensures { λ r. ⌜ InPlace (now (words .entry)) v r (now (words .exit)) ⌝ }
 {
     sized(words);
@@ -41,7 +42,8 @@ fn free(words: &mut [u64; 20], v: u32) -> u64
 
 // A byte was sent: the next place is filled, or a look for an abort follows.
 fn filled(words: &mut [u64; 20], v: u32) -> u64
-    requires { ⌜ (getD (now words) 0 0 ≡ 5) × (getD (now words) 1 0 ≡ 1) ⌝ }
+    requires { ⌜ (getD (now words) 0 0 ≡ 5)
+        × (getD (now words) 1 0 ≡ 1) ⌝ }
     ensures { λ r. ⌜ InPlace (now (words .entry)) v r (now (words .exit)) ⌝ }
 {
     sized(words);
