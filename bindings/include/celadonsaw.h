@@ -81,7 +81,7 @@ celadonsaw_report celadonsaw_transaction_async(uint16_t address, const uint8_t *
 /* What lasts from call to call: hand each call what the one before it left. A new slave is all zeros. */
 typedef struct {
     bool has_pending; /* a byte was received for the next message */
-    uint8_t pending_byte;
+    uint8_t pending_byte; /* that byte; a call leaves 0 where there is none */
     uint16_t address;
     bool general_call;
 } celadonsaw_slave;

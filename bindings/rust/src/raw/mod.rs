@@ -219,3 +219,30 @@ extern "C" {
         read_len: usize,
     ) -> Access;
 }
+
+// What the safe functions do not show.
+#[cfg(test)]
+mod tests {
+    use super::*;
+
+    #[test]
+    fn a_byte_that_is_not_kept_is_0() {
+        let before = Slave { has_pending: false, pending_byte: 0x33, address: 0x155, general_call: true };
+        let left = slave_respond_till_stop(before, 1, &[], &mut [0; 2]);
+        assert_eq!((left.state.has_pending, left.state.pending_byte), (false, 0));
+        assert_eq!((left.state.address, left.state.general_call), (0x155, true));
+        assert_eq!((left.report.number, left.report.entries, left.report.used), (18, 0, 0));
+    }
+
+    #[test]
+    fn an_access_has_only_its_own_fields() {
+        let fields = |access: Access| (access.kind, access.register, access.number, access.value);
+        let mut words = [0; 20];
+        start(&mut words, false, true, 0x42, &[0], &[1], 0, 1);
+        assert_eq!(fields(next_access(&words, &[])), (2, 0x6C, 0, 0));
+        assert_eq!(fields(step(&mut words, 0, &[0], &[1], &[], &mut [0])), (2, 0x04, 0, 0x42));
+        start(&mut words, false, true, 0xFFFF, &[0], &[1], 0, 1);
+        assert_eq!(fields(next_access(&words, &[])), (0, 0, 6, 0xFFFF));
+        assert_eq!(fields(step(&mut words, 0, &[0], &[1], &[], &mut [0])), (0, 0, 6, 0xFFFF));
+    }
+}
