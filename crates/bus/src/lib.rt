@@ -40,6 +40,12 @@ pub enum Opening {
     Restart,
 }
 
+// The bus after a word, and what stands before the word's byte.
+pub struct Applied {
+    pub bus: Bus,
+    pub opening: Opening,
+}
+
 // What an entry of a log writes to a register that is asked for.
 pub enum Written {
     Nothing,
@@ -78,7 +84,8 @@ impl Direction {
     }
 
     fn bit(self) -> u32
-        ensures { λ r. ⌜ (r ≡ direction-bit self) × (r < 2) ⌝ }
+        ensures { λ r. ⌜ (r ≡ direction-bit self)
+            × (r < 2) ⌝ }
     {
         match self {
             Direction::Writing => 0,
@@ -106,6 +113,17 @@ impl Direction {
         ensures { λ r. ⌜ r ≡ (same self (direction-of w) && not (restart w)) ⌝ }
     {
         self.is(Direction::of(w)) & !has_restart(w)
+    }
+
+    // What stands before a word's byte on a bus that is busy in this direction.
+    fn opening(self, w: u32) -> Opening
+        ensures { λ r. ⌜ r ≡ opening-of (Bus.Busy self) w ⌝ }
+    {
+        if self.goes_on(w) {
+            Opening::None
+        } else {
+            Opening::Restart
+        }
     }
 
     // A word's byte, or its read slot, as it stands in a sequence.
@@ -149,7 +167,8 @@ fn put_address(out: &mut [u32], at: usize, first: u32, address: u32, d: Directio
 
 impl Opening {
     fn put(self, out: &mut [u32], at: usize, address: u32, d: Direction) -> usize
-        requires { ⌜ (address < 1024) × (at + 2 < 2 ^ 64) ⌝ }
+        requires { ⌜ (address < 1024)
+            × (at + 2 < 2 ^ 64) ⌝ }
         ensures { λ r. ⌜ (r ≡ at + length (opening self address d))
             × (now (out .exit) ≡ sets (now (out .entry)) at (sign-words (opening self address d))) ⌝ }
     {
@@ -181,23 +200,8 @@ impl Bus {
         Bus::Idle
     }
 
-    // What a word makes before its byte: START on an idle bus;
-    // RESTART where the direction changes or the word asks for it.
-    pub fn opens(self, w: u32) -> Opening
-        ensures { λ r. ⌜ r ≡ opening-of self w ⌝ }
-    {
-        match self {
-            Bus::Idle => Opening::Start,
-            Bus::Busy(d) => if d.goes_on(w) {
-                Opening::None
-            } else {
-                Opening::Restart
-            },
-        }
-    }
-
-    // The bus after a word: idle after a STOP, else busy in the word's direction.
-    pub fn applied(self, w: u32) -> Bus
+    // The bus that a word leaves: idle after a STOP, else busy in the word's direction.
+    fn left_by(w: u32) -> Bus
         ensures { λ r. ⌜ r ≡ after w ⌝ }
     {
         if has_stop(w) {
@@ -207,28 +211,49 @@ impl Bus {
         }
     }
 
+    // A word applied to the bus: START stands before its byte on an idle bus;
+    // on a busy one RESTART, where the direction changes or the word asks for it.
+    pub fn applied(self, w: u32) -> Applied
+        ensures { λ r. ⌜ (r .opening ≡ opening-of self w)
+            × (r .bus ≡ after w) ⌝ }
+    {
+        let bus = Bus::left_by(w);
+        match self {
+            Bus::Idle => Applied {
+                bus,
+                opening: Opening::Start,
+            },
+            Bus::Busy(d) => Applied {
+                bus,
+                opening: d.opening(w),
+            },
+        }
+    }
+
     // Puts what a word makes of the bus into the buffer.
     fn put(self, out: &mut [u32], at: usize, address: u32, w: u32) -> Placed
-        requires { ⌜ (address < 1024) × (at + 4 < 2 ^ 64) ⌝ }
+        requires { ⌜ (address < 1024)
+            × (at + 4 < 2 ^ 64) ⌝ }
         ensures { λ r. ⌜ (r .bus ≡ after w)
             × (r .at ≡ at + length (signs-of self address w))
             × (now (out .exit) ≡ sets (now (out .entry)) at (sign-words (signs-of self address w))) ⌝ }
     {
         let d = Direction::of(w);
-        let first = self.opens(w).put(out, at, address, d);
+        let applied = self.applied(w);
+        let opening = applied.opening;
+        let first = opening.put(out, at, address, d);
         put(out, first, d.byte(w));
         let next = put_closing(out, first + 1, has_stop(w));
-        Placed {
-            bus: self.applied(w),
-            at: next,
-        }
+        let bus = applied.bus;
+        Placed { bus, at: next }
     }
 }
 
 impl Placed {
     // Puts what an entry of a log makes of the bus into the buffer, where the entry writes a word.
     fn put(self, out: &mut [u32], address: u32, word: Written) -> Placed
-        requires { ⌜ (address < 1024) × (self .at + 4 < 2 ^ 64) ⌝ }
+        requires { ⌜ (address < 1024)
+            × (self .at + 4 < 2 ^ 64) ⌝ }
         ensures { λ r. ⌜ (r .bus ≡ moved (self .bus) word)
             × (r .at ≡ self .at + length (made (self .bus) address word))
             × (now (out .exit) ≡ sets (now (out .entry)) (self .at)

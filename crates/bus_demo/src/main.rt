@@ -1,7 +1,6 @@
 // Prints the bus sequence of worked logs. The file `stdout` holds what
 // UM10204 and the datasheet's DATA_CMD make of them, worked out by hand.
 use libc::STDOUT_FILENO;
-ghost use Prim.Native.Nat.{_≤_};
 
 // The heads of log entries: a write to TAR and to DATA_CMD.
 const TAR: u32 = 0x204;
@@ -42,15 +41,9 @@ fn say_sign(word: u32) {
     }
 }
 
-fn least(a: usize, b: usize) -> usize
-    ensures { λ r. ⌜ r ≤ b ⌝ }
-{
-    if a < b { a } else { b }
-}
-
 // The places of a buffer that hold a sequence.
 fn say_held(places: &[u32], count: usize) {
-    let held = least(count, places.len());
+    let held = counts::least(count, places.len());
     let mut i = 0;
     while i < held {
         say_sign(places[i]);

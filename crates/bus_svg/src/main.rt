@@ -30,7 +30,7 @@ fn warn_of(line: u64) {
 
 // The picture of the log's used part. Says whether there was anything to draw.
 fn draw(log: &[u32], used: usize, places: &mut [u32], out: &mut [u8]) -> bool {
-    let n = regs_runs::least(used, log.len());
+    let n = counts::least(used, log.len());
     let made = svg_picture::picture(&log[..n], places, out);
     io::write_all(STDOUT_FILENO, &out[..made]);
     made > 0

@@ -1,5 +1,5 @@
--- The machine against the Rust, the counts against the datasheet, and the settings that are accepted.
+-- The machine against the Rust, the counts against the documents, and every setting against the table of refusals.
 pub mod Agrees
 pub mod Counted
-pub mod Accepted
+pub mod Table
 pub mod Bounds

@@ -1,5 +1,5 @@
--- What the table of refusals (docs/MANUAL.md) refuses of clock settings, and what the RP2040 datasheet asks of the counts.
-use Prim.Native.Nat.{ℕ, _+_, _-_, _/_, _%_, _<_, _≤_}
+-- The counts of a setting, and what the RP2040 datasheet and UM10204 ask of them.
+use Prim.Native.Nat.{ℕ, _+_, _*_, _/_, _%_, _<_, _≤_}
 use mathlib.Core.Path.{_≡_}
 use lib.Dec.{ltb}
 use Rattle.regs.specs.Program.{if_then_else_}
@@ -15,27 +15,34 @@ lcnt frequency clk = lcnt-of (period frequency clk)
 unfoldable pub hold : ℕ → ℕ → ℕ
 hold frequency clk = if ltb frequency 1000000 then hold-below-1-mhz clk else hold-at-1-mhz clk
 
--- no row of the table refuses the setting: numbers 1, 2, 3, then 4, then the three grounds of 5
-pub record NotRefused (frequency clk : ℕ) : Type 0 where
-  pub not-too-high : frequency ≤ 1000000
-  pub not-zero : 0 < frequency
-  pub clock-in-range : clk ≤ 1431655765
-  pub hcnt-not-above : hcnt frequency clk ≤ 65535
-  pub lcnt-not-above : lcnt frequency clk ≤ 65535
-  pub hcnt-not-below : 8 ≤ hcnt frequency clk
-  pub lcnt-not-below : 8 ≤ lcnt frequency clk
-  pub fast-enough : frequency ≡ 1000000 → 32000000 < clk
-  pub hold-fits : hold frequency clk ≤ lcnt frequency clk - 2
-
--- IC_FS_SCL_HCNT, IC_FS_SCL_LCNT, IC_FS_SPKLEN and IC_SDA_HOLD as the datasheet wants them. The spike count is cut
--- to 8 bits as in the Rust,
--- so that it can be 0, where the datasheet wants at least 1, but only if lcnt ÷ 16 is a multiple of 256 (docs/DIFFERENCES.md).
-pub record Lawful (hcnt lcnt hold spike : ℕ) : Type 0 where
-  pub hcnt-low : 8 ≤ hcnt
-  pub hcnt-high : hcnt ≤ 65535
-  pub lcnt-low : 8 ≤ lcnt
-  pub lcnt-high : lcnt ≤ 65535
-  pub hold-short : hold ≤ lcnt - 2
+-- IC_FS_SCL_HCNT, IC_FS_SCL_LCNT, IC_SDA_HOLD and IC_FS_SPKLEN for a frequency and a clock, beside the limits of the table.
+pub record Lawful (frequency clk hcnt lcnt hold spike : ℕ) : Type 0 where
+  -- high and low are the whole number of clock periods nearest to clk ÷ frequency, the larger at a half
+  pub period-not-long : 2 * (hcnt + lcnt) * frequency ≤ 2 * clk + frequency
+  pub period-not-short : 2 * clk < 2 * (hcnt + lcnt) * frequency + frequency
+  -- low is one and a half times high, but for rounding
+  pub low-not-long : 2 * lcnt ≤ 3 * hcnt
+  pub low-not-short : 3 * hcnt ≤ 2 * lcnt + 4
+  -- the smallest hold time above 300 ns, and at 1 MHz above 120 ns
+  pub hold-below-1-mhz : frequency < 1000000 → (3 * clk < hold * 10000000) × (hold * 10000000 ≤ 3 * clk + 10000000)
+  pub hold-at-1-mhz : frequency ≡ 1000000 → (3 * clk < hold * 25000000) × (hold * 25000000 ≤ 3 * clk + 25000000)
   pub low-over-spike : spike + 7 < lcnt
   pub high-over-spike : spike + 5 < hcnt
+  -- The datasheet wants a spike count of at least 1. It is cut to 8 bits as in the Rust, so that it can be 0, but
+  -- only if lcnt ÷ 16 is a multiple of 256 (docs/DIFFERENCES.md).
   pub spike-zero : spike ≡ 0 → (16 ≤ lcnt) × (lcnt / 16 % 256 ≡ 0)
+
+-- n periods of the clock are at least so many nanoseconds
+abbrev pub Lasts : ℕ → ℕ → ℕ → Type 0
+Lasts clk n ns = ns * clk ≤ n * 1000000000
+
+-- UM10204's smallest low and high times of SCL in standard mode, fast mode and fast mode plus. The 4,000 ns of
+-- standard mode's high time follow only up to 97,561 Hz, above which 3,900 ns do (docs/DIFFERENCES.md).
+pub record Timed (frequency clk hcnt lcnt : ℕ) : Type 0 where
+  pub standard-low : frequency ≤ 100000 → Lasts clk lcnt 4700
+  pub standard-high : frequency ≤ 97561 → Lasts clk hcnt 4000
+  pub standard-high-short : frequency ≤ 100000 → Lasts clk hcnt 3900
+  pub fast-low : frequency ≤ 400000 → Lasts clk lcnt 1300
+  pub fast-high : frequency ≤ 400000 → Lasts clk hcnt 600
+  pub plus-low : frequency ≤ 1000000 → Lasts clk lcnt 500
+  pub plus-high : frequency ≤ 1000000 → Lasts clk hcnt 260

@@ -1,4 +1,5 @@
--- Clock setup: the Rust's `set_config`, what the datasheet asks of it, and the machine.
+-- Clock setup: the Rust's `set_config`, what the documents ask of its counts, the table of refusals, and the machine.
 pub mod SetConfig
 pub mod Datasheet
+pub mod Table
 pub mod inner

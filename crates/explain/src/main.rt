@@ -32,7 +32,7 @@ fn say_line(line: &[u8], number: u64, before: Transfer, out: &mut [u8]) {
 
 // The bus line of the log's used part.
 fn say_bus(log: &[u32], used: usize, places: &mut [u32], out: &mut [u8]) {
-    let n = regs_runs::least(used, log.len());
+    let n = counts::least(used, log.len());
     let made = explain_bus::line::bus_line(&log[..n], places, out);
     say(&out[..made]);
 }

@@ -90,7 +90,9 @@ fn push_piece(out: &mut [u8], at: usize, bus: Bus, address: u32, w: u32) -> usiz
         31 (now (out .exit)) r ⌝ }
 {
     let read = is_read(w);
-    let a = push_opening(out, at, bus.opens(w), address, read);
+    let applied = bus.applied(w);
+    let opening = applied.opening;
+    let a = push_opening(out, at, opening, address, read);
     let b = push_data(out, a, read, w);
     push_closing(out, b, has_stop(w))
 }

@@ -47,7 +47,11 @@ fn go_on(address: u32, bus: Bus, word: Written) -> Transfer
 {
     match word {
         Written::Nothing => Transfer::To(address, bus),
-        Written::Value(w) => Transfer::To(address, bus.applied(w)),
+        Written::Value(w) => {
+            let applied = bus.applied(w);
+            let next = applied.bus;
+            Transfer::To(address, next)
+        }
     }
 }
 

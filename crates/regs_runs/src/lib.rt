@@ -1,7 +1,7 @@
 // A machine's run in parts. In specs/ is what it means that a run comes from one of
 // its states to another; here are the entries that a part of it puts into the log.
 ghost use mathlib.Core.Path.{_≡_};
-ghost use Prim.Native.Nat.{_+_, _/_, _<_, _≤_};
+ghost use Prim.Native.Nat.{_+_, _/_, _<_};
 ghost use lib.ListN.{length};
 ghost use Rattle.regs.specs.inner.Machine.{entered};
 
@@ -37,12 +37,4 @@ pub fn put_mark(log: &mut [u32], k: usize, mark: u8)
     ensures { λ _. ⌜ now (log .exit) ≡ entered (now (log .entry)) k (0x300 + mark) 0 ⌝ }
 {
     put(log, k, 0x300 + mark as u32, 0);
-}
-
-// The smaller of two counts.
-pub fn least(a: usize, b: usize) -> usize
-    ensures { λ r. ⌜ (r ≤ a)
-        × (r ≤ b) ⌝ }
-{
-    if a < b { a } else { b }
 }

@@ -1,12 +1,12 @@
 // `listen`: STATUS says that a byte is there, and it is stored; when the FIFO
 // is empty, RX_TL and INTR_MASK are set, and the next poll finds bytes again.
+use counts::least;
 use regs::fields::byte_of;
 use regs::fields::has_rd_req;
 use regs::fields::has_stop_det;
 use regs::fields::is_first_data_byte;
 use regs::fields::is_not_empty;
 use regs::fields::level_of;
-use regs_runs::least;
 use regs_runs::put_mark;
 use regs_runs::put_read;
 use regs_runs::put_write;

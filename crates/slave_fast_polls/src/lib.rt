@@ -1,11 +1,11 @@
 // Polls that find nothing to do: INTR_MASK is set, and the next poll comes.
+use counts::least;
 use regs::fields::has_rd_req;
 use regs::fields::has_rx_done;
 use regs::fields::has_stop_det;
 use regs::fields::has_tx_abrt;
 use regs::fields::has_tx_empty;
 use regs::fields::level_of;
-use regs_runs::least;
 use regs_runs::put_mark;
 use regs_runs::put_read;
 use regs_runs::put_write;

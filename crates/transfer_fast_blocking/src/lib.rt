@@ -38,8 +38,8 @@ fn ahead(from: u16, len: u16, entries: usize, readings: usize) -> usize
         × (r ≤ entries)
         × (r ≤ readings) ⌝ }
 {
-    regs_runs::least(
+    counts::least(
         len as usize - 1 - from as usize,
-        regs_runs::least(entries, readings),
+        counts::least(entries, readings),
     )
 }

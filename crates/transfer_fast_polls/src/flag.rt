@@ -1,8 +1,8 @@
 // `write_blocking_internal`: RAW_INTR_STAT is read until TX_EMPTY is set, or STOP_DET.
 use super::Polled;
+use counts::least;
 use regs::fields::has_stop_det;
 use regs::fields::has_tx_empty;
-use regs_runs::least;
 use regs_runs::put_read;
 ghost use mathlib.Core.Path.{_≡_};
 ghost use Prim.Native.Nat.{_/_, _≤_};

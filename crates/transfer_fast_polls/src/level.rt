@@ -1,7 +1,7 @@
 // `read_blocking_internal`: RXFLR has no byte yet, and TX_ABRT_SOURCE says that nothing was aborted.
 use super::Polled;
+use counts::least;
 use regs::fields::level_of;
-use regs_runs::least;
 use regs_runs::put_read;
 ghost use mathlib.Core.Path.{_≡_};
 ghost use Prim.Native.Nat.{ℕ, _/_, _≤_};

@@ -1,13 +1,13 @@
 // `wait_on` of the async forms: a poll that is not done sets
 // INTR_MASK and makes its mark, and the next poll comes.
 use super::Polled;
+use counts::least;
 use regs::fields::has_stop_det;
 use regs::fields::level_of;
 use regs::fields::with_m_rx_full;
 use regs::fields::with_m_stop_det;
 use regs::fields::with_m_tx_abrt;
 use regs::fields::with_m_tx_empty;
-use regs_runs::least;
 use regs_runs::put_mark;
 use regs_runs::put_read;
 use regs_runs::put_write;

@@ -12,7 +12,7 @@ least-requires : tie.Need-least-requires
 least-requires c κs = search needs
 
 slice-aggregate-picture : tie.Need-slice-aggregate-picture
-slice-aggregate-picture c = sym (length-take-le _ _ (c .before .least .ensures .1))
+slice-aggregate-picture c = sym (length-take-le _ _ (omega (arith, c .before .least .ensures)))
 
 picture-requires : tie.Need-picture-requires
 picture-requires c κs = search needs

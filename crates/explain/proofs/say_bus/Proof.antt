@@ -12,7 +12,7 @@ least-requires : tie.Need-least-requires
 least-requires c κs = search needs
 
 slice-aggregate-bus-line : tie.Need-slice-aggregate-bus-line
-slice-aggregate-bus-line c = sym (length-take-le _ _ (c .before .least .ensures .1))
+slice-aggregate-bus-line c = sym (length-take-le _ _ (omega (arith, c .before .least .ensures)))
 
 bus-line-requires : tie.Need-bus-line-requires
 bus-line-requires c κs = search needs

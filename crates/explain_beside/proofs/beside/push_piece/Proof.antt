@@ -9,8 +9,8 @@ use Rattle.explain_beside.proofs.beside.push_piece.Tie as tie
 is-read-requires : tie.Need-is-read-requires
 is-read-requires c κs = search needs
 
-opens-requires : tie.Need-opens-requires
-opens-requires c κs = search needs
+applied-requires : tie.Need-applied-requires
+applied-requires c κs = search needs
 
 push-opening-requires : tie.Need-push-opening-requires
 push-opening-requires c κs = search needs
@@ -33,10 +33,10 @@ returns c =
     let at-has-stop = at-push-closing .before in
     let at-push-data = at-has-stop .before .before .before .before in
     let at-push-opening = at-push-data .before .before .before .before in
-    let at-opens = at-push-opening .before in
-    let at-is-read = at-opens .before .before in
+    let at-applied = at-push-opening .before .before in
+    let at-is-read = at-applied .before in
     rw
-    (← piece-is, ← at-is-read .is-read .ensures, ← at-opens .opens .ensures, ← at-has-stop .has-stop .ensures)
+    (← piece-is, ← at-is-read .is-read .ensures, ← at-applied .applied .ensures .0, ← at-has-stop .has-stop .ensures)
     (then (at-push-opening .push-opening .ensures)
     (then (at-push-data .push-data .ensures) (at-push-closing .push-closing .ensures)))
 
@@ -45,7 +45,7 @@ push-piece-spec =
     tie.close
     (tie.spec
     is-read-requires
-    opens-requires
+    applied-requires
     push-opening-requires
     push-data-requires
     has-stop-requires

@@ -18,7 +18,7 @@ returns c = simp (c .enum-told .given .1)
 returns-2 : tie.Need-returns-2
 returns-2 c =
     let at-word = c .before .before in
-    simp (at-word .word .given .1, c .applied .ensures)
+    simp (at-word .word .given .1, c .applied .ensures .1)
 
 pub go-on-spec : {M : Type 1} → statement M
 go-on-spec = tie.close (tie.spec enum-told enum-known-word applied-requires returns returns-2)

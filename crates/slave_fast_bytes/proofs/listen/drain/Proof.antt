@@ -48,9 +48,9 @@ loop-holds c =
     let at-start = at-shared-slice-known .before in
     let m = c .least2 .ensures in
     let w = c .before .least .ensures in (
-      no-turn (drain-none (at-start .pre .3) (search needs)) (omega (arith, m .0, at-start .pre .0))
-          (omega (arith, at-start .pre .1)) (omega (arith, m .1, w .0, at-start .pre .3))
-          (omega (arith, m .1, w .1, at-start .pre .2)) (search needs) (search needs) (search needs)
+      no-turn (drain-none (at-start .pre .3) (search needs)) (omega (arith, m, at-start .pre .0))
+          (omega (arith, at-start .pre .1)) (omega (arith, m, w, at-start .pre .3))
+          (omega (arith, m, w, at-start .pre .2)) (search needs) (search needs) (search needs)
           (search needs),
       omega arith,
     )
