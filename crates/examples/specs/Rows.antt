@@ -42,8 +42,8 @@ transferred mode a x readings = expected (transfer mode a x) some-room readings 
 abbrev pub Holds : Row → Type 0
 Holds (counts frequency clk hcnt lcnt hold spike) =
     (number (set frequency clk .answer) ≡ 0)
-    × (set frequency clk .log ≡ Write ENABLE 0 ∷ Write FS-SCL-HCNT hcnt ∷ Write FS-SCL-LCNT lcnt ∷ Write FS-SPKLEN
-    spike ∷ Read SDA-HOLD 0 ∷ Write SDA-HOLD hold ∷ Write ENABLE 1 ∷ [])
+    × (set frequency clk .log ≡ Write ENABLE 0 ∷ Write FS-SCL-HCNT hcnt ∷ Write FS-SCL-LCNT lcnt
+    ∷ Write FS-SPKLEN spike ∷ Read SDA-HOLD 0 ∷ Write SDA-HOLD hold ∷ Write ENABLE 1 ∷ [])
 Holds (refused frequency clk n) = number (set frequency clk .answer) ≡ n
 Holds (words mode x readings ws) = (number (transferred mode 0x50 x readings .answer) ≡ 0)
     × (written-to DATA-CMD (transferred mode 0x50 x readings .log) ≡ ws)

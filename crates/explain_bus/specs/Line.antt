@@ -17,8 +17,9 @@ use Rattle.answer_frames.specs.declared.Frame.the-variants.{Read, Write, Pendin
 -- the two words of a log's entry that a frame adds: of a write, and from the write to TAR on. Only a master's calls write TAR.
 abbrev pub kept-of : ℕ → Frame → List ℕ
 kept-of used (Read offset w) = []
-kept-of used (Write offset w) = if eqb used 0 then
-    (if eqb (offset % 256) TAR then (0x200 + offset % 256) ∷ w ∷ [] else []) else (0x200 + offset % 256) ∷ w ∷ []
+kept-of used (Write offset w) =
+    if eqb used 0 then (if eqb (offset % 256) TAR then (0x200 + offset % 256) ∷ w ∷ [] else [])
+    else (0x200 + offset % 256) ∷ w ∷ []
 kept-of used Pending = []
 kept-of used BlockReset = []
 kept-of used Buffer = []

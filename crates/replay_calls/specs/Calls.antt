@@ -43,8 +43,9 @@ listed ks ls bs n = record { kinds = ks; lengths = ls; bytes = bs; room = n }
 
 unfoldable pub listing : List (Operation ℕ) → Listed
 listing [] = listed [] [] [] 0
-listing (writes bs ∷ os) = let rest = listing os in listed (WRITE ∷ rest .kinds) (length bs ∷ rest .lengths)
-    (bs ++ rest .bytes) (rest .room)
+listing (writes bs ∷ os) =
+    let rest = listing os in
+    listed (WRITE ∷ rest .kinds) (length bs ∷ rest .lengths) (bs ++ rest .bytes) (rest .room)
 listing (reads n ∷ os) = let rest = listing os in listed (READ ∷ rest .kinds) (n ∷ rest .lengths) (rest .bytes) (n + rest .room)
 
 -- number 20, before everything else: more than 64 operations, or more than 4,096 bytes of one direction

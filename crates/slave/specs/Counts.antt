@@ -149,6 +149,6 @@ TrueLeftover =
 abbrev pub TrueLeftoverFilled : Type 0
 TrueLeftoverFilled =
     (bytes : List ℕ) (fill : ℕ) (log readings : List ℕ) (me : SlaveState) (n : ℕ)
-    → expected (respond-and-fill-call bytes fill) log readings [] me .answer ≡ Answered
-    (Responded (LeftoverBytes n))
+    → expected (respond-and-fill-call bytes fill) log readings [] me .answer
+    ≡ Answered (Responded (LeftoverBytes n))
     → Leftover n (expected (respond-and-fill-call bytes fill) log readings [] me)

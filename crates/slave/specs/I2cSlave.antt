@@ -138,8 +138,8 @@ listen-drain length len rxflr = do
 -- is a stuck flag (pull-ups that come up late make one): it is cleared, and the wait goes on.
 abbrev pub listen-command : ℕ → ℕ → ℕ → Driver Listened
 listen-command length stat len =
-    if eqb length len then (if gen-call stat then return (ready (err (PartialGeneralCall length))) else return
-    (ready (err (PartialWrite length))))
+    if eqb length len then (if gen-call stat then return (ready (err (PartialGeneralCall length)))
+    else return (ready (err (PartialWrite length))))
     else (if restart-det stat && rd-req stat then (do
       get CLR-RESTART-DET
       return (ready (ok (WriteRead len))))
@@ -185,7 +185,8 @@ abort-reason w =
     else (if ltb 0 (tx-flush-cnt w) then TxNotEmpty (tx-flush-cnt w)
     else Other w))
 
--- the flush count is the number of bytes that the master did not fetch; CLR_TX_ABRT clears the source too, so that is read first
+-- the flush count is the number of bytes that the controller threw out of the transmit FIFO; CLR_TX_ABRT clears the
+-- source too, so the source is read first
 abbrev pub read-and-clear-abort-reason : Driver (Result (Unit {0}) AbortReason)
 read-and-clear-abort-reason = do
   w ← get TX-ABRT-SOURCE
