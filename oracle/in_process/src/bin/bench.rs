@@ -1,4 +1,4 @@
-//! Measures the cost of one access in process, and time against length. Prints two tables in Markdown.
+//! Measures the cost of one access in process, and time against length, short calls apart. Prints three tables in Markdown.
 //!
 //! Every number is the smallest of several batches, the sides by turns, so that what else the machine does counts least.
 
@@ -16,7 +16,10 @@ const BATCH_NS: f64 = 5e6;
 /// Bytes of the transfers whose accesses are measured: the log of the stand-in has room for each.
 const BYTES: usize = 1024;
 const ADDRESS: u16 = 0x55;
+const FORMS: [(&str, u8); 4] = [("blocking_read", 0), ("blocking_write", 1), ("read_async", 4), ("write_async", 5)];
 const LENGTHS: [usize; 9] = [16, 32, 64, 128, 256, 512, 1024, 2048, 4096];
+/// Up to one fill of the FIFO, and one byte more.
+const SHORT: [usize; 6] = [1, 4, 8, 15, 16, 17];
 /// What a straight line may be missed by.
 const TOLERANCE: f64 = 0.10;
 
@@ -138,14 +141,30 @@ fn whole_call(form: u8, length: usize) -> impl FnMut() {
     }
 }
 
+/// The time of a whole call at each length, in ns.
+fn times_of(form: u8, lengths: &[usize]) -> Vec<f64> {
+    let mut runs: Vec<_> = lengths.iter().map(|&length| whole_call(form, length)).collect();
+    let mut sides: Vec<&mut dyn FnMut()> = runs.iter_mut().map(|run| run as &mut dyn FnMut()).collect();
+    measure(&mut sides)
+}
+
+fn short() {
+    print!("| call |");
+    SHORT.iter().for_each(|length| print!(" {length} |"));
+    println!("\n|---|{}", "---|".repeat(SHORT.len()));
+    for (name, form) in FORMS {
+        print!("| {name} |");
+        times_of(form, &SHORT).iter().for_each(|time| print!(" {time:.0} |"));
+        println!();
+    }
+}
+
 fn by_length() {
     print!("| call | ns a byte |");
     LENGTHS.iter().for_each(|length| print!(" {length} |"));
     println!(" furthest off |\n|---|---|{}---|", "---|".repeat(LENGTHS.len()));
-    for (name, form) in [("blocking_read", 0), ("blocking_write", 1), ("read_async", 4), ("write_async", 5)] {
-        let mut runs = LENGTHS.map(|length| whole_call(form, length));
-        let mut sides: Vec<&mut dyn FnMut()> = runs.iter_mut().map(|run| run as &mut dyn FnMut()).collect();
-        let times = measure(&mut sides);
+    for (name, form) in FORMS {
+        let times = times_of(form, &LENGTHS);
         let points: Vec<(f64, f64)> = LENGTHS.map(|length| length as f64).into_iter().zip(times).collect();
         let (offset, slope) = line(&points);
         let mut furthest: f64 = 0.0;
@@ -165,4 +184,6 @@ fn main() {
     one_access();
     println!("\nTime of a whole call against its length, in ns\n");
     by_length();
+    println!("\nTime of a short whole call, in ns\n");
+    short();
 }
