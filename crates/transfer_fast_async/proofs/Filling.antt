@@ -2,11 +2,12 @@
 -- byte, at the poll after the last place, or past the last byte.
 use Prim.Native.Nat.{ℕ, _+_, _/_, _-_, _<_, _≤_, _^_}
 use native.Mathlib.Omega.{arith}
-use mathlib.Core.Bool.{Bool}
+use mathlib.Core.Bool.{Bool, true, false, _&&_}
 use mathlib.Core.List.{List}
-use mathlib.Core.Path.{_≡_, refl}
+use mathlib.Core.Path.{_≡_, refl, sym, _∙_}
 use lib.ListN.{length, length-set, getD}
-use borrow.Author.Tests.{ne-eqb, lt-ltb, le-ltb}
+use lib.Dec.{leb}
+use borrow.Author.Tests.{ne-eqb, lt-ltb, le-ltb, leb-true, leb-false, le-leb, lt-leb}
 use Rattle.regs.specs.Registers.{DATA-CMD}
 use Rattle.regs.specs.inner.Machine.{entered}
 use Rattle.transfer.specs.inner.Points.{with-point}
@@ -61,6 +62,18 @@ pub no-byte : (len : ℕ) (send-stop : Bool) (i left : ℕ) → i ≡ len → 0 
 unfolding filling
 no-byte len send-stop i left ended some = rw (ne-eqb left 0 (λ (z : left ≡ 0). omega (arith, some, z)), le-ltb i len (omega (arith, ended)))
 
+-- the test for the last round, without a difference
+pub below : (i len space : ℕ) → i ≤ len → leb (len - i) space ≡ leb len (i + space)
+below i len space within = go (leb len (i + space)) refl
+  where
+    go : (b : Bool) → leb len (i + space) ≡ b → leb (len - i) space ≡ leb len (i + space)
+    go true e = le-leb (len - i) space (omega (arith, leb-true len (i + space) e, within)) ∙ sym e
+    go false e = lt-leb (len - i) space (omega (arith, leb-false len (i + space) e, within)) ∙ sym e
+
+and-true : (b : Bool) → (b && true) ≡ b
+and-true true = refl
+and-true false = refl
+
 -- the inner loop's head: j of the places are filled
 pub record Filling (len at : ℕ) (send-stop : Bool) (bytes readings : List ℕ) (u from space e₀ : ℕ) (l₀ : List ℕ) (i e : ℕ) (l : List ℕ)
     (j : ℕ) : Type 0 where
@@ -84,6 +97,19 @@ module _ {len at : ℕ} {send-stop : Bool} {bytes readings : List ℕ} {u from s
   -- a byte and a place for it: the log has room for the word
   pub word-fits : j < space → i < len → e < length l₀ / 2
   word-fits more before = omega (arith, g .room j more (omega (arith, before, g .passed)), g .counted)
+
+  -- the test for the end fails: there is a byte, since a round that is not the last has one for each place
+  pub more-bytes : (last : Bool) → last ≡ leb len (from + space) → j < space → (last ≡ true → i ≡ len → ⊥) → i < len
+  more-bytes true is more going = omega (arith, g .within, going refl)
+  more-bytes false is more going = omega (arith, g .passed, more, leb-false len (from + space) (sym is))
+
+  -- STOP is asked for in the last round alone: before it no byte is the last one
+  pub same-word : (last : Bool) → last ≡ leb len (from + space) → j < space → (byte : ℕ)
+      → fill-word byte i len (send-stop && last) ≡ fill-word byte i len send-stop
+  unfolding fill-word
+  same-word true is more byte = rw (and-true send-stop)
+  same-word false is more byte =
+      rw (ne-eqb (i + 1) len (λ (z : i + 1 ≡ len). omega (arith, z, g .passed, more, leb-false len (from + space) (sym is))))
 
   -- no place is left: a poll follows
   pub polls-next : space ≤ j → Polls readings u × (e + 2 ≤ length l₀ / 2)

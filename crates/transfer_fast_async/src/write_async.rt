@@ -11,9 +11,10 @@ use transfer::Tried;
 use transfer_access::words::word_of_fill;
 use transfer_after_waits::wait_for_stop;
 use transfer_fast_blocking::is_within;
-ghost use mathlib.Core.Bool.{true};
+ghost use mathlib.Core.Bool.{true, false};
 ghost use mathlib.Core.Path.{_≡_};
 ghost use Prim.Native.Nat.{_+_, _/_, _<_, _≤_};
+ghost use lib.Dec.{leb};
 ghost use lib.ListN.{length};
 ghost use Rattle.transfer_fast_async.specs.inner.Rounds.{Polls, StraightFill, Fills};
 
@@ -56,6 +57,28 @@ fn planned(i: u16, len: u16, readings: &[u32], used: usize, entries: usize, room
         }
     }
     0
+}
+
+// Whether the bytes end in a round. The loop over the places of another
+// round is compiled without the tests for their end and for the last byte.
+fn is_last(i: u16, len: u16, space: u16) -> bool
+    requires { ⌜ i ≤ len ⌝ }
+    ensures { λ r. ⌜ r ≡ leb len (i + space) ⌝ }
+{
+    len - i <= space
+}
+
+// Whether no byte is left. Only a last round can find that.
+fn has_ended(last: bool, i: u16, len: u16) -> bool
+    ensures { λ r. ⌜ (r ≡ true → i ≡ len)
+        × (r ≡ false → last ≡ true → i ≡ len → ⊥) ⌝ }
+{
+    if last {
+        if i == len {
+            return true;
+        }
+    }
+    false
 }
 
 // How far a burst came: where it leads, the readings used and the entries in the log.
@@ -101,11 +124,12 @@ fn run(
         put_read(log, k, regs::TXFLR, readings[u]);
         u += 1;
         k += 1;
+        let last = is_last(i, len, space);
         for _ in 0..space {
-            if i == len {
+            if has_ended(last, i, len) {
                 break 'xmit;
             }
-            let w = word_of_fill(bytes[at + i as usize], i, len, send_stop);
+            let w = word_of_fill(bytes[at + i as usize], i, len, send_stop & last);
             put_write(log, k, regs::DATA_CMD, w);
             i += 1;
             k += 1;

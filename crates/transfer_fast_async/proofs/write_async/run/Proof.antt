@@ -1,23 +1,26 @@
 -- `run`: at the outer loop's head the run is at TXFLR before byte i (`Came`); in the inner loop it is where
 -- `filling` leads with the places that are left (`Filling`). At the break no byte is left (the test i = len)
--- and a place is (the loop's own test), so `filling` is the end of the operation (`last-round`); where all
--- places are filled, the poll that `planned` looked at leads to the next round (`one-round`). The free log
--- entries decrease.
+-- and a place is (the loop's own test), so `filling` is the end of the operation (`last-round`). In a round
+-- that is not the last the test is left out, since each place has a byte (`more-bytes`) and none is the last
+-- one (`same-word`). Where all places are filled, the poll that `planned` looked at leads to the next round
+-- (`one-round`). The free log entries decrease.
 use Rattle.transfer_fast_async.proofs.write_async.run.Statement.{statement}
 use Rattle.transfer_fast_async.proofs.write_async.run.Tie as tie
 use native.Mathlib.Omega.{arith}
 use Prim.Native.Nat.{_/_, _-_, _<_}
+use mathlib.Core.Path.{_∙_}
 use lib.ListN.{length}
-use Rattle.transfer_fast_async.proofs.Filling.{Filling, word-fits, polls-next, one-filled}
+use Rattle.transfer_fast_async.proofs.Filling.{Filling, more-bytes, same-word, word-fits, polls-next}
+use Rattle.transfer_fast_async.proofs.Filling.{one-filled}
 use Rattle.transfer_fast_async.proofs.Fills.{Came, no-round, level-fits, none-filled, one-round, last-round}
 use borrow.Author.Needs.{needs}
 
 abbrev Inv-loop : tie.InvT-loop
-Inv-loop from len at send-stop bytes readings used log₀ entries room i₀ u k₀ space counter₀ log i k counter =
+Inv-loop from len at send-stop bytes readings used log₀ entries room i₀ u k₀ space last counter₀ log i k counter =
     Filling len at send-stop bytes readings u i₀ space k₀ log₀ i k log counter
 
 abbrev μ-loop : tie.MeasureT-loop
-μ-loop from len at send-stop bytes readings used log₀ entries room i₀ u k₀ space counter₀ log i k counter =
+μ-loop from len at send-stop bytes readings used log₀ entries room i₀ u k₀ space last counter₀ log i k counter =
     space - counter
 
 abbrev Inv-xmit : tie.InvT-xmit
@@ -79,30 +82,46 @@ add-k c =
     let g = at-xmit .xmit .inv in
     omega (arith, g .room, g .fits)
 
+is-last-requires : tie.Need-is-last-requires Inv-loop μ-loop Inv-xmit μ-xmit
+is-last-requires c κs =
+    let at-put-read = c .before .before in
+    let at-if1 = at-put-read .before .before .before in
+    let at-xmit = at-if1 .before .before in
+    at-xmit .xmit .inv .within
+
 loop-holds : tie.Need-loop-holds Inv-loop μ-loop Inv-xmit μ-xmit
 loop-holds c =
-    let at-put-read = c .before .before in
+    let at-put-read = c .before .before .before in
     let at-if1 = at-put-read .before .before .before in
     let at-planned = at-if1 .before in
     let at-xmit = at-planned .before in
     none-filled (at-xmit .xmit .inv) (at-planned .planned .ensures (omega (arith, at-if1 .if1 .left)))
     (at-put-read .put-read .kept .0)
 
+has-ended-requires : tie.Need-has-ended-requires Inv-loop μ-loop Inv-xmit μ-xmit
+has-ended-requires c κs = search needs
+
 cast-word-of-fill : tie.Need-cast-word-of-fill Inv-loop μ-loop Inv-xmit μ-xmit
 cast-word-of-fill c = search needs
 
 add-word-of-fill : tie.Need-add-word-of-fill Inv-loop μ-loop Inv-xmit μ-xmit
 add-word-of-fill c =
-    let at-loop = c .before .before in
+    let at-loop = c .before .before .before in
     let f = at-loop .loop .inv in
     omega (arith, f .within, f .held, f .fits)
 
 shared-slice-read-word-of-fill :
     tie.Need-shared-slice-read-word-of-fill Inv-loop μ-loop Inv-xmit μ-xmit
 shared-slice-read-word-of-fill c =
-    let at-loop = c .before .before .before in
+    let at-if2 = c .before in
+    let at-has-ended = at-if2 .before in
+    let at-loop-test = at-has-ended .before in
+    let at-loop = at-loop-test .before in
+    let at-is-last = at-loop .before in
     let f = at-loop .loop .inv in
-    omega (arith, c .before .if2 .left, f .within, f .held)
+    let byte = more-bytes f _ (at-is-last .is-last .ensures) (at-loop-test .loop-test .taken)
+    (at-has-ended .has-ended .ensures .1 (at-if2 .if2 .left)) in
+    omega (arith, byte, f .held)
 
 word-of-fill-requires : tie.Need-word-of-fill-requires Inv-loop μ-loop Inv-xmit μ-xmit
 word-of-fill-requires c κs = search needs
@@ -110,28 +129,38 @@ word-of-fill-requires c κs = search needs
 put-write-requires : tie.Need-put-write-requires Inv-loop μ-loop Inv-xmit μ-xmit
 put-write-requires c κs =
     let at-if2 = c .before .before .before in
-    let at-loop-test = at-if2 .before in
+    let at-has-ended = at-if2 .before in
+    let at-loop-test = at-has-ended .before in
     let at-loop = at-loop-test .before in
     let f = at-loop .loop .inv in
-    let word = word-fits f (at-loop-test .loop-test .taken) (omega (arith, at-if2 .if2 .left, f .within)) in
+    let byte = more-bytes f _ (at-loop .before .is-last .ensures) (at-loop-test .loop-test .taken)
+    (at-has-ended .has-ended .ensures .1 (at-if2 .if2 .left)) in
+    let word = word-fits f (at-loop-test .loop-test .taken) byte in
     omega (arith, word, f .long)
 
 add-i : tie.Need-add-i Inv-loop μ-loop Inv-xmit μ-xmit
 add-i c =
     let at-word-of-fill = c .before .before .before .before in
     let at-if2 = at-word-of-fill .before .before in
-    let at-loop = at-if2 .before .before in
+    let at-has-ended = at-if2 .before in
+    let at-loop-test = at-has-ended .before in
+    let at-loop = at-loop-test .before in
     let f = at-loop .loop .inv in
-    omega (arith, at-if2 .if2 .left, f .within, f .fits)
+    let byte = more-bytes f _ (at-loop .before .is-last .ensures) (at-loop-test .loop-test .taken)
+    (at-has-ended .has-ended .ensures .1 (at-if2 .if2 .left)) in
+    omega (arith, byte, f .fits)
 
 add-k-2 : tie.Need-add-k-2 Inv-loop μ-loop Inv-xmit μ-xmit
 add-k-2 c =
     let at-word-of-fill = c .before .before .before .before in
     let at-if2 = at-word-of-fill .before .before in
-    let at-loop-test = at-if2 .before in
+    let at-has-ended = at-if2 .before in
+    let at-loop-test = at-has-ended .before in
     let at-loop = at-loop-test .before in
     let f = at-loop .loop .inv in
-    let word = word-fits f (at-loop-test .loop-test .taken) (omega (arith, at-if2 .if2 .left, f .within)) in
+    let byte = more-bytes f _ (at-loop .before .is-last .ensures) (at-loop-test .loop-test .taken)
+    (at-has-ended .has-ended .ensures .1 (at-if2 .if2 .left)) in
+    let word = word-fits f (at-loop-test .loop-test .taken) byte in
     omega (arith, word, f .fits)
 
 add-counter : tie.Need-add-counter Inv-loop μ-loop Inv-xmit μ-xmit
@@ -140,7 +169,7 @@ add-counter c = search needs
 loop-less : tie.Need-loop-less Inv-loop μ-loop Inv-xmit μ-xmit
 loop-less c =
     let at-word-of-fill = c .before .before .before .before in
-    let at-loop-test = at-word-of-fill .before .before .before in
+    let at-loop-test = at-word-of-fill .before .before .before .before in
     omega (arith, at-loop-test .loop-test .taken)
 
 loop-again : tie.Need-loop-again Inv-loop μ-loop Inv-xmit μ-xmit
@@ -148,11 +177,16 @@ loop-again c =
     let at-put-write = c .before .before in
     let at-word-of-fill = at-put-write .before .before in
     let at-if2 = at-word-of-fill .before .before in
-    let at-loop-test = at-if2 .before in
+    let at-has-ended = at-if2 .before in
+    let at-loop-test = at-has-ended .before in
     let at-loop = at-loop-test .before in
     let f = at-loop .loop .inv in
-    one-filled f (at-loop-test .loop-test .taken) (omega (arith, at-if2 .if2 .left, f .within))
-    (at-word-of-fill .word-of-fill .ensures) (at-put-write .put-write .ensures)
+    let byte = more-bytes f _ (at-loop .before .is-last .ensures) (at-loop-test .loop-test .taken)
+    (at-has-ended .has-ended .ensures .1 (at-if2 .if2 .left)) in
+    let word = same-word f (at-loop .before .is-last .result) (at-loop .before .is-last .ensures)
+    (at-loop-test .loop-test .taken) _ in
+    one-filled f (at-loop-test .loop-test .taken) byte (at-word-of-fill .word-of-fill .ensures ∙ word)
+    (at-put-write .put-write .ensures)
 
 mul-put-read-2 : tie.Need-mul-put-read-2 Inv-loop μ-loop Inv-xmit μ-xmit
 mul-put-read-2 c = search needs
@@ -240,7 +274,7 @@ xmit-less c =
     let at-put-read2 = at-put-read-arg3 .before .before .before in
     let at-loop-test = at-put-read2 .before .before .before in
     let at-loop = at-loop-test .before in
-    let at-put-read = at-loop .before .before .before in
+    let at-put-read = at-loop .before .before .before .before in
     let at-planned = at-put-read .before .before .before .before in
     let at-xmit = at-planned .before in
     let f = at-loop .loop .inv in
@@ -254,7 +288,7 @@ xmit-again c =
     let at-put-read2 = at-log3 .before in
     let at-loop-test = at-put-read2 .before .before .before in
     let at-loop = at-loop-test .before in
-    let at-put-read = at-loop .before .before .before in
+    let at-put-read = at-loop .before .before .before .before in
     let at-if1 = at-put-read .before .before .before in
     let at-planned = at-if1 .before in
     let at-xmit = at-planned .before in
@@ -270,23 +304,24 @@ wait-for-stop-requires c κs = search needs
 
 same-length-2 : tie.Need-same-length-2 Inv-loop μ-loop Inv-xmit μ-xmit
 same-length-2 c =
-    let at-loop = c .before .before .before in
-    let at-put-read = at-loop .before .before .before in
+    let at-loop = c .before .before .before .before in
+    let at-put-read = at-loop .before .before .before .before in
     let at-planned = at-put-read .before .before .before .before in
     let at-xmit = at-planned .before in
     omega (arith, at-loop .loop .inv .long, at-put-read .put-read .kept .0, at-xmit .xmit .inv .long)
 
 returns-2 : tie.Need-returns-2 Inv-loop μ-loop Inv-xmit μ-xmit
 returns-2 c =
-    let at-loop-test = c .before .before in
+    let at-has-ended = c .before .before in
+    let at-loop-test = at-has-ended .before in
     let at-loop = at-loop-test .before in
-    let at-put-read = at-loop .before .before .before in
+    let at-put-read = at-loop .before .before .before .before in
     let at-if1 = at-put-read .before .before .before in
     let at-planned = at-if1 .before in
     let at-xmit = at-planned .before in
     let some : 0 < at-planned .planned .result = omega (arith, at-if1 .if1 .left) in
     last-round (at-xmit .xmit .inv) (at-planned .planned .ensures some) some (at-put-read .put-read .ensures)
-    (at-loop .loop .inv) (at-loop-test .loop-test .taken) (c .before .if2 .taken) (c .wait-for-stop .ensures)
+    (at-loop .loop .inv) (at-loop-test .loop-test .taken) (at-has-ended .has-ended .ensures .0 (c .before .if2 .taken)) (c .wait-for-stop .ensures)
 
 pub run-spec : {M : Type 1} → statement M
 run-spec =
@@ -305,7 +340,9 @@ run-spec =
     put-read-requires
     add-u
     add-k
+    is-last-requires
     loop-holds
+    has-ended-requires
     cast-word-of-fill
     add-word-of-fill
     shared-slice-read-word-of-fill
