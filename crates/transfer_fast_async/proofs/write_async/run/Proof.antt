@@ -321,7 +321,8 @@ returns-2 c =
     let at-xmit = at-planned .before in
     let some : 0 < at-planned .planned .result = omega (arith, at-if1 .if1 .left) in
     last-round (at-xmit .xmit .inv) (at-planned .planned .ensures some) some (at-put-read .put-read .ensures)
-    (at-loop .loop .inv) (at-loop-test .loop-test .taken) (at-has-ended .has-ended .ensures .0 (c .before .if2 .taken)) (c .wait-for-stop .ensures)
+    (at-loop .loop .inv) (at-loop-test .loop-test .taken)
+    (at-has-ended .has-ended .ensures .0 (c .before .if2 .taken)) (c .wait-for-stop .ensures)
 
 pub run-spec : {M : Type 1} → statement M
 run-spec =
