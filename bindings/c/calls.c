@@ -113,15 +113,14 @@ static void expect_access(
 
 /* A transfer by steps, which makes the accesses of a log and ends with number and detail: once by `step`, once by
  * `advance` and `next_access`. After the end nothing changes. */
-static void steps(const char *call, bool queued, bool restart, uint16_t address, const uint8_t *kinds, size_t kinds_len,
+static void steps(const char *call, uint8_t form, uint16_t address, const uint8_t *kinds, size_t kinds_len,
     const uint16_t *lengths, size_t lengths_len, const uint8_t *write, size_t write_len, size_t read_len,
     uint8_t number, uint32_t detail, const uint32_t *words, size_t count, const uint8_t *bytes, size_t bytes_len) {
     for (int in_one = 0; in_one < 2; in_one++) {
         begin(call);
         celadonsaw_transfer transfer;
         memset(&transfer, UNREAD, sizeof transfer);
-        celadonsaw_start(&transfer, queued, restart, address, kinds, kinds_len, lengths, lengths_len,
-            write_len, read_len);
+        celadonsaw_start(&transfer, form, address, kinds, kinds_len, lengths, lengths_len, write_len, read_len);
         celadonsaw_access access = celadonsaw_next_access(&transfer, write, write_len);
         for (size_t i = 0; i < count / 2 + 2; i++) {
             uint32_t reading = 0xBAD;
@@ -298,28 +297,49 @@ static void slave_calls(void) {
             R(0x80, 0x1800000), R(0x54, 0), R(0x40, 0)), NO_BYTES);
 }
 
-/* `queued` and `restart` in all four pairs; the lengths of the buffers differ, so that each is held to its own. */
+/* All eight forms; the lengths of the buffers differ, so that each is held to its own. Then what is 20. */
 static void step_calls(void) {
-    steps("steps, line 4105", false, true, 0x42, BYTES(0), LENGTHS(20), NO_BYTES, 20,
+    steps("steps, line 4105", CELADONSAW_BLOCKING_READ, 0x42, BYTES(0), LENGTHS(20), NO_BYTES, 20,
         12, 18, LOG_OF_LINE_4105, BYTES(0xA1));
-    steps("steps, refused write of the manual", false, true, 0x50, BYTES(1), LENGTHS(1), BYTES(0x5A), 0,
+    steps("steps, refused write of the manual", CELADONSAW_BLOCKING_WRITE, 0x50, BYTES(1), LENGTHS(1), BYTES(0x5A), 0,
         11, 8, LOG_OF_A_REFUSED_WRITE, NO_BYTES);
-    steps("steps, line 1155", false, true, 0x42, BYTES(1, 0), LENGTHS(1, 2), BYTES(0x11), 2,
+    steps("steps, line 1155", CELADONSAW_BLOCKING_WRITE_READ, 0x42, BYTES(1, 0), LENGTHS(1, 2), BYTES(0x11), 2,
         0, 0, LOG_OF_LINE_1155, BYTES(0xA1, 0xA2));
-    steps("steps, line 5013", false, false, 0x42, BYTES(1, 0, 1, 0), LENGTHS(2, 1, 1, 3), BYTES(0x11, 0x12, 0x13), 4,
-        0, 0, LOG_OF_LINE_5013, BYTES(0xA1, 0xA2, 0xA3, 0xA4));
-    steps("steps, async read of the manual", true, true, 0x50, BYTES(0), LENGTHS(2), NO_BYTES, 2,
+    steps("steps, line 5013", CELADONSAW_TRANSACTION, 0x42, BYTES(1, 0, 1, 0), LENGTHS(2, 1, 1, 3),
+        BYTES(0x11, 0x12, 0x13), 4, 0, 0, LOG_OF_LINE_5013, BYTES(0xA1, 0xA2, 0xA3, 0xA4));
+    steps("steps, async read of the manual", CELADONSAW_READ_ASYNC, 0x50, BYTES(0), LENGTHS(2), NO_BYTES, 2,
         0, 0, LOG_OF_AN_ASYNC_READ, BYTES(0xA1, 0xA2));
-    steps("steps, line 3794", true, true, 0x42, BYTES(1), LENGTHS(2), BYTES(0x11, 0x12), 0,
+    steps("steps, line 3794", CELADONSAW_WRITE_ASYNC, 0x42, BYTES(1), LENGTHS(2), BYTES(0x11, 0x12), 0,
         10, 0, LOG_OF_LINE_3794, NO_BYTES);
-    steps("steps, line 2458", true, true, 0x42, BYTES(1, 0), LENGTHS(1, 2), BYTES(0x11), 2,
+    steps("steps, line 2458", CELADONSAW_WRITE_READ_ASYNC, 0x42, BYTES(1, 0), LENGTHS(1, 2), BYTES(0x11), 2,
         0, 0, LOG_OF_LINE_2458, BYTES(0xA1, 0xA2));
-    steps("steps, line 5145", true, false, 0x42, BYTES(1, 0, 1, 0), LENGTHS(2, 1, 1, 3), BYTES(0x11, 0x12, 0x13), 4,
-        0, 0, LOG_OF_LINE_5145, BYTES(0xA1, 0xA2, 0xA3, 0xA4));
-    steps("steps, line 2847", false, true, 0xFFFF, BYTES(0), LENGTHS(1), NO_BYTES, 1,
+    steps("steps, line 5145", CELADONSAW_TRANSACTION_ASYNC, 0x42, BYTES(1, 0, 1, 0), LENGTHS(2, 1, 1, 3),
+        BYTES(0x11, 0x12, 0x13), 4, 0, 0, LOG_OF_LINE_5145, BYTES(0xA1, 0xA2, 0xA3, 0xA4));
+    steps("steps, line 2847", CELADONSAW_BLOCKING_READ, 0xFFFF, BYTES(0), LENGTHS(1), NO_BYTES, 1,
         6, 0xFFFF, NOTHING_LOGGED, NO_BYTES);
-    steps("steps, lengths of other buffers", true, true, 0x42, BYTES(1, 0), LENGTHS(2, 1), BYTES(0x11), 2,
+    steps("steps, lengths of other buffers", CELADONSAW_WRITE_READ_ASYNC, 0x42, BYTES(1, 0), LENGTHS(2, 1),
+        BYTES(0x11), 2, 20, 0, NOTHING_LOGGED, NO_BYTES);
+    steps("steps, a length without a kind", CELADONSAW_BLOCKING_READ, 0x42, BYTES(0), LENGTHS(2, 0), NO_BYTES, 2,
         20, 0, NOTHING_LOGGED, NO_BYTES);
+    steps("steps, form 8", 8, 0x42, BYTES(0), LENGTHS(1), NO_BYTES, 1, 20, 0, NOTHING_LOGGED, NO_BYTES);
+    steps("steps, form 255", 255, 0x42, BYTES(1, 0), LENGTHS(1, 1), BYTES(0x11), 1, 20, 0, NOTHING_LOGGED, NO_BYTES);
+    for (uint8_t form = 0; form < 8; form++) {
+        if (form % 4 < 2) {
+            steps("steps, two reads", form, 0x42, BYTES(0, 0), LENGTHS(1, 1), NO_BYTES, 2,
+                20, 0, NOTHING_LOGGED, NO_BYTES);
+            steps("steps, no operations", form, 0x42, NO_BYTES, NO_LENGTHS, NO_BYTES, 0,
+                20, 0, NOTHING_LOGGED, NO_BYTES);
+        }
+        if (form % 4 == 0 || form % 4 == 2)
+            steps("steps, a write in a read's or a write-read's form", form, 0x42, BYTES(1), LENGTHS(1), BYTES(0x11), 0,
+                20, 0, NOTHING_LOGGED, NO_BYTES);
+        if (form % 4 == 1 || form % 4 == 2)
+            steps("steps, a read in a write's or a write-read's form", form, 0x42, BYTES(0), LENGTHS(1), NO_BYTES, 1,
+                20, 0, NOTHING_LOGGED, NO_BYTES);
+        if (form % 4 == 2)
+            steps("steps, a read before the write", form, 0x42, BYTES(0, 1), LENGTHS(1, 1), BYTES(0x11), 1,
+                20, 0, NOTHING_LOGGED, NO_BYTES);
+    }
 }
 
 int main(void) {

@@ -85,12 +85,12 @@ static uint32_t perform(celadonsaw_access access) {
 }
 
 /* The main loop up to a transfer's end. What else the firmware does is counted only. */
-static void main_loop(const char *name, bool queued, uint16_t address, const uint8_t *kinds, const uint16_t *lengths, size_t count,
+static void main_loop(const char *name, uint8_t form, uint16_t address, const uint8_t *kinds, const uint16_t *lengths, size_t count,
     const uint8_t *write, size_t write_len, uint8_t *read, size_t read_len) {
     int other_work = 0;
     printf("-- %s\n", name);
     celadonsaw_transfer transfer;
-    celadonsaw_start(&transfer, queued, true, address, kinds, count, lengths, count, write_len, read_len);
+    celadonsaw_start(&transfer, form, address, kinds, count, lengths, count, write_len, read_len);
     celadonsaw_access access = celadonsaw_next_access(&transfer, write, write_len);
     while (access.kind != 0) {
         uint32_t reading = perform(access);
@@ -109,11 +109,11 @@ int main(void) {
     block.place = -1;
     for (int i = 0; i < 256; i++)
         block.memory[i] = (uint8_t)i;
-    main_loop("blocking write of 2 bytes to 0x20", false, 0x50, (uint8_t[]){1}, (uint16_t[]){3}, 1,
+    main_loop("blocking write of 2 bytes to 0x20", CELADONSAW_BLOCKING_WRITE, 0x50, (uint8_t[]){1}, (uint16_t[]){3}, 1,
         (uint8_t[]){0x20, 0xAA, 0xBB}, 3, bytes, 0);
-    main_loop("async read of 5 bytes from 0x1E", true, 0x50, (uint8_t[]){1, 0}, (uint16_t[]){1, 5}, 2,
+    main_loop("async read of 5 bytes from 0x1E", CELADONSAW_WRITE_READ_ASYNC, 0x50, (uint8_t[]){1, 0}, (uint16_t[]){1, 5}, 2,
         (uint8_t[]){0x1E}, 1, bytes, 5);
     printf("[%02X, %02X, %02X, %02X, %02X]\n", bytes[0], bytes[1], bytes[2], bytes[3], bytes[4]);
-    main_loop("nobody at 0x51", false, 0x51, (uint8_t[]){0}, (uint16_t[]){5}, 1, bytes, 0, bytes, 5);
+    main_loop("nobody at 0x51", CELADONSAW_BLOCKING_READ, 0x51, (uint8_t[]){0}, (uint16_t[]){5}, 1, bytes, 0, bytes, 5);
     return 0;
 }

@@ -31,7 +31,8 @@ extern "C" {
  * 14 listen buffer full, 15 the same with a general call (detail: the length)
  * 16 slave address 0                 17 a pending byte and an empty listen buffer
  * 18 a read is next, readings used up                                19 an access or mark is next, log full
- * 20 over the limits, lengths that do not add up to the buffers, or a kind that is neither 0 nor 1
+ * 20 over the limits, lengths that do not add up to the buffers, a kind that is neither 0 nor 1; with steps, a form above 7 or
+ *    kinds that are not those of the form
  * 1, 2, 3, 6, 13, 16, 17 and 20 make no access; 4 and 5 none but ENABLE 0. Bytes not yet read stay as they are.
  * detail of an accepted call: see the slave's calls; 0 of all others. */
 typedef struct {
@@ -141,10 +142,22 @@ typedef struct {
     uint32_t value;
 } celadonsaw_access;
 
-/* Puts a transfer before its first access. queued: by polls, else blocking. restart: false for a transaction; true for a read
- * (kinds {0}), a write ({1}) or a write-read ({1, 0}). write_len and read_len are the buffers' lengths: 20 where the lengths do
- * not add up to them. kinds, lengths and both buffers stay the same up to the end. */
-void celadonsaw_start(celadonsaw_transfer *transfer, bool queued, bool restart, uint16_t address,
+/* The forms of a transfer: blocking, and by polls. A read has kinds {0}, a write {1}, a write-read {1, 0}, a transaction any. */
+enum {
+    CELADONSAW_BLOCKING_READ = 0,
+    CELADONSAW_BLOCKING_WRITE = 1,
+    CELADONSAW_BLOCKING_WRITE_READ = 2,
+    CELADONSAW_TRANSACTION = 3,
+    CELADONSAW_READ_ASYNC = 4,
+    CELADONSAW_WRITE_ASYNC = 5,
+    CELADONSAW_WRITE_READ_ASYNC = 6,
+    CELADONSAW_TRANSACTION_ASYNC = 7
+};
+
+/* Puts a transfer of a form before its first access. write_len and read_len are the buffers' lengths. 20 where the form is above
+ * 7, the kinds are not those of the form, or the lengths do not add up to the buffers'. kinds, lengths and both buffers stay the
+ * same up to the end. */
+void celadonsaw_start(celadonsaw_transfer *transfer, uint8_t form, uint16_t address,
     const uint8_t *kinds, size_t kinds_len, const uint16_t *lengths, size_t lengths_len, size_t write_len, size_t read_len);
 
 celadonsaw_access celadonsaw_next_access(const celadonsaw_transfer *transfer, const uint8_t *write, size_t write_len);

@@ -3,6 +3,13 @@ use crate::{raw, Refusal};
 
 const MOST_OPERATIONS: usize = 64;
 
+// The blocking forms as the library numbers them; the async ones follow in the same order.
+const READ: u8 = 0;
+const WRITE: u8 = 1;
+const WRITE_READ: u8 = 2;
+const TRANSACTION: u8 = 3;
+const QUEUED: u8 = 4;
+
 /// An operation of a transaction, with its number of bytes.
 #[derive(Clone, Copy, PartialEq, Eq, Debug)]
 pub enum Operation {
@@ -34,10 +41,11 @@ pub struct Transfer<'a> {
 }
 
 impl<'a> Transfer<'a> {
-    /// `queued` takes the async form. More than 64 operations are refused as any transfer over the limits.
+    /// `form` is that of the blocking transfer, and `queued` takes the async one. More than 64 operations are refused
+    /// as any transfer over the limits.
     fn start(
         queued: bool,
-        restart: bool,
+        form: u8,
         address: u16,
         operations: &[Operation],
         write: &'a [u8],
@@ -55,21 +63,22 @@ impl<'a> Transfer<'a> {
         // Kinds and lengths that differ in number are refused too.
         let kinds_told = if operations.len() > MOST_OPERATIONS { &[] } else { &kinds[..count] };
         let mut words = [0; 20];
-        raw::start(&mut words, queued, restart, address, kinds_told, &lengths[..count], write.len(), read.len());
+        let form = if queued { form + QUEUED } else { form };
+        raw::start(&mut words, form, address, kinds_told, &lengths[..count], write.len(), read.len());
         Transfer { words, kinds, lengths, count, write, read }
     }
 
     pub fn read(queued: bool, address: u16, read: &'a mut [u8]) -> Self {
-        Self::start(queued, true, address, &[Operation::Read(length(read))], &[], read)
+        Self::start(queued, READ, address, &[Operation::Read(length(read))], &[], read)
     }
 
     pub fn write(queued: bool, address: u16, write: &'a [u8]) -> Self {
-        Self::start(queued, true, address, &[Operation::Write(length(write))], write, &mut [])
+        Self::start(queued, WRITE, address, &[Operation::Write(length(write))], write, &mut [])
     }
 
     pub fn write_read(queued: bool, address: u16, write: &'a [u8], read: &'a mut [u8]) -> Self {
         let operations = [Operation::Write(length(write)), Operation::Read(length(read))];
-        Self::start(queued, true, address, &operations, write, read)
+        Self::start(queued, WRITE_READ, address, &operations, write, read)
     }
 
     /// The writes' bytes stand end to end in `write`, the reads' in `read`.
@@ -80,7 +89,7 @@ impl<'a> Transfer<'a> {
         write: &'a [u8],
         read: &'a mut [u8],
     ) -> Self {
-        Self::start(queued, false, address, operations, write, read)
+        Self::start(queued, TRANSACTION, address, operations, write, read)
     }
 
     #[inline]

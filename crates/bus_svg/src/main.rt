@@ -1,101 +1,105 @@
-// Draws what a call put on the bus: the replay's answer frames on standard input, an SVG
-// picture on standard output. The picture is that of the first call that put anything on
-// the bus; it is what svg_text's Picture says of that call's writes, by the contracts of
-// `explain_bus::kept::keep` and `svg_picture::picture`. A line that is no answer frame
-// is told with its number on standard error. The lines are what text_stdin's Handed
-// says, by the contract of `text_stdin::next_line`. Here they are only moved.
-use answer_frames::frame_in;
-use answer_frames::is_answer;
-use answer_frames::is_unknown;
+// Draws what a call put on the bus: the replay's answer frames on standard input, an SVG picture
+// on standard output, and the numbers of the lines that are no answer frames on standard error.
+// What is written is what svg_lines's Drawn says of the input, by the contracts of
+// `text_stdin::next_line`, `svg_lines::draw_line` and `svg_lines::finish` and the claims
+// `every-line` and `every-input` over them; here bytes are only moved. Where no picture was drawn
+// because the input could not be read to its end, or it could not be written, standard error says so.
 use libc::STDERR_FILENO;
 use libc::STDOUT_FILENO;
+use svg_lines::Kept;
 use text_stdin::next_line;
-ghost use Prim.Native.Nat.{_<_};
+use text_stdin::reads::End;
+use text_stdin::reads::is_ended;
+ghost use mathlib.Core.List.{[]};
+ghost use mathlib.Core.Path.{_≡_};
+ghost use Prim.Native.Nat.{_<_, _≤_};
+ghost use lib.ListN.{length};
+ghost use Rattle.regs.specs.Program.{if_then_else_};
+ghost use Rattle.text_hex.specs.Appended.{Appended};
+ghost use Rattle.text_stdin.specs.Reads.{is-ended-at};
+ghost use Rattle.answer_lines.specs.Lines.{LOG-WORDS};
+ghost use Rattle.svg_lines.specs.inner.Said.{PLACES, PICTURE-ROOM, last-warning};
 
-// What is kept of the open call: how much of the log is used; and whether a picture was drawn.
-struct Call {
-    used: usize,
-    done: bool,
+// What is kept where the lines end, how the input stands then, and whether all was written.
+struct Stopped {
+    kept: Kept,
+    end: End,
+    written: bool,
 }
 
-fn warn(text: &[u8]) {
-    io::write_all(STDERR_FILENO, text);
-}
-
-fn warn_of(line: u64) {
-    warn(b"line ");
-    io::print_decimal(STDERR_FILENO, line);
-    warn(b": not an answer frame\n");
-}
-
-// The picture of the log's used part. Says whether there was anything to draw.
-fn draw(log: &[u32], used: usize, places: &mut [u32], out: &mut [u8]) -> bool {
-    let n = counts::least(used, log.len());
-    let made = svg_picture::picture(&log[..n], places, out);
-    io::write_all(STDOUT_FILENO, &out[..made]);
-    made > 0
-}
-
-// A whole line: at an answer its call is drawn, and ends.
-fn end_line(
-    line: &[u8],
-    number: u64,
-    used: usize,
-    log: &mut [u32],
-    places: &mut [u32],
-    out: &mut [u8],
-) -> Call {
-    let f = frame_in(line);
-    if is_answer(f) {
-        return Call {
-            used: 0,
-            done: draw(log, used, places, out),
-        };
+fn put(picture: bool, text: &[u8]) -> bool {
+    if picture {
+        return io::write_all(STDOUT_FILENO, text);
     }
-    if is_unknown(f) {
-        warn_of(number);
-    }
-    Call {
-        used: explain_bus::kept::keep(line, log, used),
-        done: false,
-    }
+    io::write_all(STDERR_FILENO, text)
 }
 
-// A proved loop ends, so it counts its turns down from a
-// number that no run uses up. Behind the picture none is left.
-fn turns_left(turns: u64, done: bool) -> u64
+// A proved loop ends, so it counts its turns down from a number that no
+// run uses up. After the picture, or a write that failed, none is left.
+fn turns_left(turns: u64, done: bool, written: bool) -> u64
     requires { ⌜ 0 < turns ⌝ }
     ensures { λ r. ⌜ r < turns ⌝ }
 {
-    if done { 0 } else { turns - 1 }
+    if done {
+        return 0;
+    }
+    if written { turns - 1 } else { 0 }
 }
 
-// Line after line to the first picture, or to the end of the input. Says whether a picture was drawn.
-fn draw_first(
+// Line after line to the picture, or to the end of the input.
+fn draw_all(
     chunk: &mut [u8],
     line: &mut [u8],
     log: &mut [u32],
     places: &mut [u32],
     out: &mut [u8],
-) -> bool {
+) -> Stopped
+    requires { ⌜ (length (now line) ≡ 8195)
+        × (length (now log) ≡ LOG-WORDS)
+        × (length (now places) ≡ PLACES)
+        × (length (now out) ≡ PICTURE-ROOM) ⌝ }
+{
     let mut source = text_stdin::start();
-    let mut call = Call {
-        used: 0,
-        done: false,
-    };
+    let mut kept = svg_lines::start();
+    let mut written = true;
     let mut turns = u64::MAX;
     while turns > 0 {
         let l = next_line(source, chunk, line);
         source = l.source;
         if l.some {
             let held = l.held;
-            call = end_line(&line[..held], source.lines, call.used, log, places, out);
-            turns = turns_left(turns, call.done);
+            let s = svg_lines::draw_line(kept, line, held, log, places, out);
+            kept = s.kept;
+            let made = s.made;
+            written = put(s.picture, &out[..made]);
+            turns = turns_left(turns, kept.done, written);
         } else {
             turns = 0;
         }
     }
-    call.done
+    let end = source.end;
+    Stopped { kept, end, written }
+}
+
+// That nothing was drawn is said at the end of the input only: where it was not read so far, nobody knows.
+fn finish(kept: Kept, end: End, out: &mut [u8]) -> usize
+    requires { ⌜ PICTURE-ROOM ≤ length (now out) ⌝ }
+    ensures { λ r. ⌜ Appended (now (out .entry)) 0
+        (if is-ended-at end then last-warning (kept .done) else [])
+        38 (now (out .exit)) r ⌝ }
+{
+    if is_ended(end) {
+        return svg_lines::finish(kept, out);
+    }
+    0
+}
+
+// A picture that was written needs no word about the rest of the input, which is not read.
+fn report(done: bool, written: bool, end: End) {
+    if done & written {
+        return;
+    }
+    text_stdin::report::stopped(b"bus_svg", written, end);
 }
 
 fn main() {
@@ -104,7 +108,11 @@ fn main() {
     let mut log = [0u32; 16384];
     let mut places = [0u32; 32768];
     let mut out = [0u8; 53000];
-    if !draw_first(&mut chunk, &mut line, &mut log, &mut places, &mut out) {
-        warn(b"no whole call put anything on the bus\n");
-    }
+    let s = draw_all(&mut chunk, &mut line, &mut log, &mut places, &mut out);
+    let kept = s.kept;
+    let end = s.end;
+    let written = s.written;
+    let made = finish(kept, end, &mut out);
+    put(false, &out[..made]);
+    report(kept.done, written, end);
 }

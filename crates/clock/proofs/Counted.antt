@@ -11,7 +11,7 @@ use borrow.Author.Tests.{ltb-true, ltb-false, lt-ltb, le-ltb}
 use Rattle.regs.proofs.Tests.{by-test}
 use Rattle.regs.specs.Program.{if_then_else_, outcome}
 use Rattle.clock.specs.SetConfig.{set-config, period, lcnt-of, hcnt-of, hold-below-1-mhz, hold-at-1-mhz, spklen}
-use Rattle.clock.specs.Datasheet.{hcnt, lcnt, hold, Lawful, Lasts, Timed}
+use Rattle.clock.specs.Datasheet.{hcnt, lcnt, hold, Lawful, Lasts, Timed, Ends, HeldInTime}
 use Rattle.clock.specs.Table.{FirstRow}
 use Rattle.clock.specs.Table.Cause.{frequency-zero, hcnt-below}
 use Rattle.clock.proofs.Table.{by-table}
@@ -143,4 +143,55 @@ unfolding outcome set-config period lcnt-of hcnt-of hold hold-below-1-mhz spklen
 standard-high-broken = (
   by-table 0 97562 2000001 (replicate 14 0) (0 ∷ []) (omega arith) (omega arith) (omega arith) .exactly .0 refl,
   (λ h. omega arith),
+)
+
+-- with 18 periods at least the clock is at least 17.5 times the frequency
+clock-reaches : (f clk : ℕ) → FirstRow 0 f clk → 35 * f ≤ 2 * clk
+clock-reaches f clk n =
+    let s = split (period f clk) in
+    let p : 18 ≤ period f clk = omega (arith, s .0, s .1, s .2, reached f clk n) in
+    omega (arith, nearest f clk (not-zero f clk n) .0, mul-le-mul-left f p)
+
+-- below 1 MHz, and at it
+held-by-mode : (f clk ns : ℕ)
+    → (f < 1000000 → hold f clk * 10000000 ≤ 3 * clk + 10000000 → Ends clk (hold f clk) ns)
+    → (f ≡ 1000000 → hold f clk * 25000000 ≤ 3 * clk + 25000000 → Ends clk (hold f clk) ns)
+    → f ≤ 1000000
+    → Ends clk (hold f clk) ns
+held-by-mode f clk ns below at le =
+    by-test (ltb f 1000000) (λ q. let h = ltb-true f 1000000 q in below h (held-below f clk h .1))
+    (λ q. let e : f ≡ 1000000 = omega (arith, ltb-false f 1000000 q) in at e (held-at f clk e .1))
+
+-- below 3,333,333 Hz the hold time is one period
+one-period : (clk d : ℕ) → 289870 ≤ clk → d * 10000000 ≤ 3 * clk + 10000000 → Ends clk d 3450
+one-period clk d c y =
+    by-test (ltb clk 3333333)
+    (λ q. let l = ltb-true clk 3333333 q in let one : d ≤ 1 = omega (arith, l, y) in omega (arith, one, c))
+    (λ q. let l = ltb-false clk 3333333 q in omega (arith, l, y))
+
+-- THE CLAIM: the hold time keeps to UM10204's data valid time in fast mode and fast mode plus, and in standard mode in part
+pub held-in-time : (f clk : ℕ) → FirstRow 0 f clk → HeldInTime f clk (hold f clk)
+held-in-time f clk n =
+    let c = clock-reaches f clk n in
+    record {
+      standard = λ a b. held-by-mode f clk 3450 (λ h y. one-period clk (hold f clk) (omega (arith, c)) y)
+          (λ e y. absurd (omega arith)) (omega arith);
+      fast = λ a b. held-by-mode f clk 900 (λ h y. omega (arith, c)) (λ e y. absurd (omega arith)) (omega arith);
+      plus = λ a b. held-by-mode f clk 450 (λ h y. omega (arith, c)) (λ e y. omega (arith, c)) b;
+    }
+
+-- 16,564 Hz is the smallest: at 16,563 Hz and a clock of 289,853 Hz one period is longer than 3,450 ns; and it is longest
+-- where everything is slowest, at 1 Hz and 18 Hz
+pub standard-hold-broken : (FirstRow 0 16563 289853 × (Ends 289853 (hold 16563 289853) 3450 → ⊥))
+    × (FirstRow 0 1 18 × (Ends 18 (hold 1 18) 3450 → ⊥))
+unfolding outcome set-config period lcnt-of hcnt-of hold hold-below-1-mhz spklen
+standard-hold-broken = (
+  (
+    by-table 0 16563 289853 (replicate 14 0) (0 ∷ []) (omega arith) (omega arith) (omega arith) .exactly .0 refl,
+    (λ h. omega arith),
+  ),
+  (
+    by-table 0 1 18 (replicate 14 0) (0 ∷ []) (omega arith) (omega arith) (omega arith) .exactly .0 refl,
+    (λ h. omega arith),
+  ),
 )

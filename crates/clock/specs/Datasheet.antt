@@ -46,3 +46,15 @@ pub record Timed (frequency clk hcnt lcnt : ℕ) : Type 0 where
   pub fast-high : frequency ≤ 400000 → Lasts clk hcnt 600
   pub plus-low : frequency ≤ 1000000 → Lasts clk lcnt 500
   pub plus-high : frequency ≤ 1000000 → Lasts clk hcnt 260
+
+-- n periods of the clock are at most so many nanoseconds
+abbrev pub Ends : ℕ → ℕ → ℕ → Type 0
+Ends clk n ns = n * 1000000000 ≤ ns * clk
+
+-- UM10204's longest data valid times of the three modes, which the hold time keeps to. Its shortest hold time is 0, which
+-- every count keeps to. In standard mode the 3,450 ns follow only from 16,564 Hz on: a slow clock's one period is longer
+-- (docs/DIFFERENCES.md).
+pub record HeldInTime (frequency clk hold : ℕ) : Type 0 where
+  pub standard : 16564 ≤ frequency → frequency ≤ 100000 → Ends clk hold 3450
+  pub fast : 100000 < frequency → frequency ≤ 400000 → Ends clk hold 900
+  pub plus : 400000 < frequency → frequency ≤ 1000000 → Ends clk hold 450

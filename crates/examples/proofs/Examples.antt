@@ -9,6 +9,7 @@ use Rattle.master.specs.Driver.{setup, tx-fifo-capacity, tx-fifo-full, rx-fifo-
 use Rattle.master.specs.Blocking.{read-blocking-bytes, read-blocking-internal, write-blocking-bytes, write-blocking-internal}
 use Rattle.master.specs.Async.{wait-stop-det, queue-batch, fetch-bytes, read-async-internal, fill, write-async-internal}
 use Rattle.master.specs.Transfer.{blocking-read, blocking-write, read-async, write-async}
+use Rattle.slave.specs.I2cSlave.{reset, reset-call}
 use Rattle.examples.specs.Rows.{Holds, rows}
 
 pub examples : Each Holds rows
@@ -16,7 +17,7 @@ unfolding set-field outcome turns rounds written-to set-config period lcnt-of hc
     spklen setup tx-fifo-capacity tx-fifo-full rx-fifo-len read-and-clear-abort-reason
     read-blocking-bytes read-blocking-internal write-blocking-bytes write-blocking-internal wait-stop-det
     queue-batch fetch-bytes read-async-internal fill write-async-internal blocking-read blocking-write
-    read-async write-async
+    read-async write-async reset reset-call
 examples = (
   (refl, refl),
   (
@@ -24,18 +25,36 @@ examples = (
     (
       (refl, refl),
       (
-        refl,
+        (refl, refl),
         (
           (refl, refl),
           (
-            refl,
+            (refl, refl),
             (
               (refl, refl),
               (
                 (refl, refl),
                 (
-                  refl,
-                  ((refl, refl), ((refl, refl), ((refl, refl), ((refl, refl), (refl, (refl, (refl, (refl, tt)))))))),
+                  (refl, refl),
+                  (
+                    (refl, refl),
+                    (
+                      (refl, refl),
+                      (
+                        (refl, refl),
+                        (
+                          (refl, refl),
+                          (
+                            λ me. (refl, refl),
+                            (
+                              λ me. (refl, refl),
+                              ((refl, refl), ((refl, refl), ((refl, (refl, refl)), ((refl, (refl, refl)), tt)))),
+                            ),
+                          ),
+                        ),
+                      ),
+                    ),
+                  ),
                 ),
               ),
             ),

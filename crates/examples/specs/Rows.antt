@@ -1,54 +1,73 @@
--- The worked examples (a) to (j) of docs/MANUAL.md, as rows of one table, and what it means that a row holds.
+-- The worked examples (a) to (j) of docs/MANUAL.md, as rows of one table, and what it means that a row holds: of
+-- whole calls, with the registers' offsets as numbers.
 use Prim.Native.Nat.{ℕ}
 use mathlib.Core.Bool.{Bool, true, false}
 use mathlib.Core.List.{List, [], _∷_}
 use mathlib.Core.Path.{_≡_}
 use lib.ListN.{replicate}
-use Rattle.regs.specs.Registers.{ENABLE, FS-SCL-HCNT, FS-SCL-LCNT, FS-SPKLEN, SDA-HOLD, DATA-CMD}
-use Rattle.regs.specs.Fields.{con-slave}
+use Rattle.regs.specs.Fields.{b2n}
 use Rattle.regs.specs.Program.{Outcome}
-use Rattle.regs.specs.Answers.{number}
+use Rattle.regs.specs.Answers.{number, detail}
 use Rattle.regs.specs.Log.{expected}
 use Rattle.regs.specs.declared.answers.Reply.{Reply}
-use Rattle.regs.specs.declared.access.Entry.the-variants.{Read, Write}
+use Rattle.regs.specs.declared.access.Entry.the-variants.{Read, Write, Marked}
 use Rattle.bus.specs.Bus.{written-to}
 use Rattle.clock.specs.SetConfig.{set-config}
-use Rattle.master.specs.Operations.{Mode, blocking, async, Transfer, read, write}
-use Rattle.master.specs.Transfer.{transfer}
+use Rattle.master.specs.Operations.{Mode, blocking, async}
+use Rattle.master.specs.Calls.{Lent, reads-into, writes-from, left-by-call}
+use Rattle.slave.specs.Calls.{resets}
+use Rattle.slave.specs.Calls as Slave
+use Rattle.slave.specs.declared.SlaveState.{SlaveState}
 
 pub data Row : Type 0 where
   -- a frequency and a clock are accepted, with these counts: high, low, hold, spike
   counts : ℕ → ℕ → ℕ → ℕ → ℕ → ℕ → Row
-  -- or refused with this number
+  -- or refused with this number, the block left disabled
   refused : ℕ → ℕ → ℕ → Row
-  -- a transfer on these readings is accepted and writes these words to DATA_CMD
-  words : Mode → Transfer ℕ → List ℕ → List ℕ → Row
-  -- CON for a slave, with a general call or without, before and after
+  -- a master call on these readings is accepted and writes these words to DATA_CMD
+  words : Mode → Lent → List ℕ → List ℕ → Row
+  -- CON before and after a reset of the slave, with general calls or without
   con : Bool → ℕ → ℕ → Row
-  -- a blocking read of one byte at an address has this number
-  address : ℕ → ℕ → Row
+  -- a read of one byte at an address is accepted on these readings
+  accepted : Mode → ℕ → List ℕ → Row
+  -- or refused with number 6 and the address, and no access
+  out-of-range : Mode → ℕ → Row
 
 -- a log with room for 50 entries
 abbrev pub some-room : List ℕ
 some-room = replicate 100 0
 
--- clock setup, with 0 read from SDA_HOLD
-abbrev pub set : ℕ → ℕ → Outcome (Unit {0}) Reply
-set frequency clk = expected (set-config frequency clk) some-room (0 ∷ []) [] tt
+-- clock setup, with 1 read from SDA_HOLD
+abbrev pub configured : ℕ → ℕ → Outcome (Unit {0}) Reply
+configured frequency clk = expected (set-config frequency clk) some-room (1 ∷ []) [] tt
 
-abbrev pub transferred : Mode → ℕ → Transfer ℕ → List ℕ → Outcome (Unit {0}) Reply
-transferred mode a x readings = expected (transfer mode a x) some-room readings (0 ∷ []) tt
+abbrev pub called : Mode → ℕ → Lent → List ℕ → Outcome (Unit {0}) Reply
+called mode address lent readings = left-by-call (record { mode = mode; address = address; lent = lent }) some-room readings
+
+abbrev pub one-byte : Lent
+one-byte = reads-into (0 ∷ [])
+
+-- a reset to address 0x28, with this read from CON and 0 from CLR_INTR
+abbrev pub after-reset : Bool → ℕ → SlaveState → Outcome SlaveState Reply
+after-reset general-call before me = Slave.left-by-call (resets 0x28 general-call) some-room (before ∷ 0 ∷ []) me
 
 abbrev pub Holds : Row → Type 0
 Holds (counts frequency clk hcnt lcnt hold spike) =
-    (number (set frequency clk .answer) ≡ 0)
-    × (set frequency clk .log ≡ Write ENABLE 0 ∷ Write FS-SCL-HCNT hcnt ∷ Write FS-SCL-LCNT lcnt
-    ∷ Write FS-SPKLEN spike ∷ Read SDA-HOLD 0 ∷ Write SDA-HOLD hold ∷ Write ENABLE 1 ∷ [])
-Holds (refused frequency clk n) = number (set frequency clk .answer) ≡ n
-Holds (words mode x readings ws) = (number (transferred mode 0x50 x readings .answer) ≡ 0)
-    × (written-to DATA-CMD (transferred mode 0x50 x readings .log) ≡ ws)
-Holds (con general-call before after) = con-slave general-call before ≡ after
-Holds (address a n) = number (transferred blocking a (read 1) (0 ∷ 1 ∷ 0 ∷ []) .answer) ≡ n
+    (number (configured frequency clk .answer) ≡ 0)
+    × (configured frequency clk .log ≡ Write 0x6C 0 ∷ Write 0x1C hcnt ∷ Write 0x20 lcnt ∷ Write 0xA0 spike
+    ∷ Read 0x7C 1 ∷ Write 0x7C hold ∷ Write 0x6C 1 ∷ [])
+Holds (refused frequency clk n) = (number (configured frequency clk .answer) ≡ n) × (configured frequency clk .log ≡ Write 0x6C 0 ∷ [])
+Holds (words mode lent readings ws) =
+    (number (called mode 0x50 lent readings .answer) ≡ 0) × (written-to 0x10 (called mode 0x50 lent readings .log) ≡ ws)
+Holds (con general-call before after) = (me : SlaveState)
+    → (number (after-reset general-call before me .answer) ≡ 0)
+    × (after-reset general-call before me .log ≡ Marked 1 ∷ Write 0x6C 0 ∷ Write 0x08 0x28 ∷ Read 0x00 before ∷ Write 0x00 after
+    ∷ Write 0x98 (b2n general-call) ∷ Write 0x3C 0 ∷ Write 0x38 0 ∷ Read 0x40 0 ∷ Write 0x6C 1 ∷ Write 0x30 0 ∷ [])
+Holds (accepted mode a readings) =
+    (number (called mode a one-byte readings .answer) ≡ 0) × (written-to 0x04 (called mode a one-byte readings .log) ≡ a ∷ [])
+Holds (out-of-range mode a) =
+    (number (called mode a one-byte [] .answer) ≡ 6)
+    × ((detail (called mode a one-byte [] .answer) ≡ a) × (called mode a one-byte [] .log ≡ []))
 
 abbrev pub rows : List Row
 rows =
@@ -61,12 +80,14 @@ rows =
     ∷ counts 100000 1800000 8 10 1 1
     ∷ counts 1000 109226000 43691 65535 33 255  -- (f) periods 109,226 and 109,227
     ∷ refused 1000 109227000 4
-    ∷ words blocking (read 1) (0 ∷ 1 ∷ 0xAA ∷ []) (0x700 ∷ [])  -- (g)
-    ∷ words async (read 1) (0 ∷ 1 ∷ 0 ∷ 0xAA ∷ 0 ∷ 0x200 ∷ 0 ∷ []) (0x700 ∷ [])
-    ∷ words blocking (write (0x5A ∷ [])) (0x10 ∷ 0 ∷ 0x200 ∷ 0 ∷ []) (0x25A ∷ [])  -- (h)
-    ∷ words async (write (0x5A ∷ [])) (0 ∷ 0 ∷ 0x200 ∷ 0 ∷ []) (0x25A ∷ [])
+    ∷ words blocking one-byte (0 ∷ 1 ∷ 0xAA ∷ []) (0x700 ∷ [])  -- (g)
+    ∷ words async one-byte (0 ∷ 1 ∷ 0 ∷ 0xAA ∷ 0 ∷ 0x200 ∷ 0 ∷ []) (0x700 ∷ [])
+    ∷ words blocking (writes-from (0x5A ∷ [])) (0x10 ∷ 0 ∷ 0x200 ∷ 0 ∷ []) (0x25A ∷ [])  -- (h)
+    ∷ words async (writes-from (0x5A ∷ [])) (0 ∷ 0 ∷ 0x200 ∷ 0 ∷ []) (0x25A ∷ [])
     ∷ con true 0x65 0x324  -- (i)
     ∷ con false 0x65 0x3A4
-    ∷ address 0x7F 0  -- (j)
-    ∷ address 0x80 6
+    ∷ accepted blocking 0x7F (0 ∷ 1 ∷ 0xAA ∷ [])  -- (j)
+    ∷ accepted async 0x7F (0 ∷ 1 ∷ 0 ∷ 0xAA ∷ 0 ∷ 0x200 ∷ 0 ∷ [])
+    ∷ out-of-range blocking 0x80
+    ∷ out-of-range async 0x80
     ∷ []

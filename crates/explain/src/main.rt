@@ -1,93 +1,67 @@
 // Explains the replay's answers: answer frames on standard input, a line of text for each on
-// standard output, and a transfer's bus line before its answer. A line's text is what
-// explain_beside's Piece says of it, by the contracts of `explain_beside::beside::tell` and
-// `explain_beside::transfer::after`, and the bus line what explain_bus's Line says of the transfer's
-// writes, by those of `explain_bus::kept::keep` and `explain_bus::line::bus_line`; the lines are
-// what text_stdin's Handed says, by that of `text_stdin::next_line`. Here they are only moved.
-use explain_beside::transfer::Transfer;
+// standard output, and a transfer's bus line before its answer. What is written is what
+// explain_lines's Printed says of the input, by the contracts of `text_stdin::next_line` and
+// `explain_lines::explain_line` and the claims `every-line` and `every-input` over them; here
+// bytes are only moved. Where the input could not be read to its end, or a text not be written,
+// standard error says so.
 use libc::STDOUT_FILENO;
 use text_stdin::next_line;
+use text_stdin::reads::End;
+ghost use mathlib.Core.Path.{_≡_};
+ghost use Prim.Native.Nat.{_+_, _<_};
+ghost use lib.ListN.{length};
+ghost use Rattle.answer_lines.specs.Lines.{LOG-WORDS};
+ghost use Rattle.explain_lines.specs.Printed.{LINE-ROOM};
+ghost use Rattle.explain_lines.specs.inner.Said.{PLACES, BUS-ROOM};
 
-// What is kept of the open call: how much of the log is used, and what stands before the next line.
-struct Call {
-    used: usize,
-    transfer: Transfer,
+// How the input stands where the lines end, and whether all was written.
+struct Stopped {
+    end: End,
+    written: bool,
 }
 
-fn say(text: &[u8]) {
-    io::write_all(STDOUT_FILENO, text);
+// A proved loop ends, so it counts its turns down from a number
+// that no run uses up. After a write that failed none is left.
+fn turns_left(turns: u64, written: bool) -> u64
+    requires { ⌜ 0 < turns ⌝ }
+    ensures { λ r. ⌜ r < turns ⌝ }
+{
+    if written { turns - 1 } else { 0 }
 }
 
-// The text of a line, or that it is none.
-fn say_line(line: &[u8], number: u64, before: Transfer, out: &mut [u8]) {
-    let made = explain_beside::beside::tell(before, line, out);
-    if made == 0 {
-        say(b"line ");
-        io::print_decimal(STDOUT_FILENO, number);
-        say(b": not an answer frame\n");
-    } else {
-        say(&out[..made]);
-    }
-}
-
-// The bus line of the log's used part.
-fn say_bus(log: &[u32], used: usize, places: &mut [u32], out: &mut [u8]) {
-    let n = counts::least(used, log.len());
-    let made = explain_bus::line::bus_line(&log[..n], places, out);
-    say(&out[..made]);
-}
-
-// A whole line: before an answer its transfer's bus line, and with it the call ends. Says what is kept then.
-fn end_line(
-    line: &[u8],
-    number: u64,
-    call: Call,
-    log: &mut [u32],
-    places: &mut [u32],
-    out: &mut [u8],
-) -> Call {
-    let before = call.transfer;
-    if answer_frames::is_answer(answer_frames::frame_in(line)) {
-        say_bus(log, call.used, places, out);
-        say_line(line, number, before, out);
-        return Call {
-            used: 0,
-            transfer: Transfer::No,
-        };
-    }
-    say_line(line, number, before, out);
-    Call {
-        used: explain_bus::kept::keep(line, log, call.used),
-        transfer: explain_beside::transfer::after(before, line),
-    }
-}
-
-// Line after line to the end of the input. A proved loop ends,
-// so it counts its turns down from a number that no run uses up.
+// Line after line to the end of the input.
 fn explain_all(
     chunk: &mut [u8],
     line: &mut [u8],
     log: &mut [u32],
     places: &mut [u32],
     out: &mut [u8],
-) {
+) -> Stopped
+    requires { ⌜ (length (now line) ≡ 8195)
+        × (length (now log) ≡ LOG-WORDS)
+        × (length (now places) ≡ PLACES)
+        × (length (now out) ≡ BUS-ROOM + LINE-ROOM) ⌝ }
+{
     let mut source = text_stdin::start();
-    let mut call = Call {
-        used: 0,
-        transfer: Transfer::No,
-    };
+    let mut call = explain_lines::start();
+    let mut written = true;
     let mut turns = u64::MAX;
     while turns > 0 {
         let l = next_line(source, chunk, line);
         source = l.source;
         if l.some {
             let held = l.held;
-            call = end_line(&line[..held], source.lines, call, log, places, out);
-            turns -= 1;
+            let s = explain_lines::explain_line(call, line, held, log, places, out);
+            call = s.call;
+            let made = s.made;
+            written = io::write_all(STDOUT_FILENO, &out[..made]);
+            turns = turns_left(turns, written);
         } else {
             turns = 0;
         }
     }
+    let end = source.end;
+    Stopped { end, written }
 }
 
 fn main() {
@@ -95,6 +69,8 @@ fn main() {
     let mut line = [0u8; 8195];
     let mut log = [0u32; 16384];
     let mut places = [0u32; 32768];
-    let mut out = [0u8; 294921];
-    explain_all(&mut chunk, &mut line, &mut log, &mut places, &mut out);
+    let mut out = [0u8; 311821];
+    let s = explain_all(&mut chunk, &mut line, &mut log, &mut places, &mut out);
+    let end = s.end;
+    text_stdin::report::stopped(b"explain", s.written, end);
 }

@@ -58,7 +58,7 @@ pub fn push_run(out: &mut [u8], at: usize, run: u32) -> usize
     }
     let a = push(out, at, b' ');
     let b = push(out, a, b'[');
-    let c = push_digits(out, b, 5, run);
+    let c = push_digits(out, b, 5, run as u64);
     push(out, c, b']')
 }
 

@@ -1,9 +1,15 @@
--- What an exported call returns, in terms of what the call that it forwards to leaves.
+-- What an exported call returns and leaves, in terms of the outcome of the call that it forwards to.
 use mathlib.Core.Path.{_≡_}
-use Prim.Native.Nat.{ℕ}
+use Prim.Native.Nat.{ℕ, _*_}
 use mathlib.Core.Bool.{Bool, true, false}
+use mathlib.Core.List.{List, _++_}
+use lib.ListN.{length, drop}
+use Rattle.regs.specs.Program.{Outcome}
+use Rattle.regs.specs.Log.{encode, reads-in}
 use Rattle.regs.specs.Answers.{number, detail}
 use Rattle.regs.specs.declared.access.Ran.{Ran}
+use Rattle.regs.specs.declared.answers.Reply.{Reply}
+use Rattle.slave.specs.I2cSlave.{is-some}
 use Rattle.slave.specs.declared.Pending.{Pending}
 use Rattle.slave.specs.declared.Pending.the-variants.{None, Byte}
 use Rattle.slave.specs.declared.SlaveState.{SlaveState}
@@ -15,13 +21,22 @@ use Rattle.export_calls.specs.declared.SlaveReport.{SlaveReport}
 abbrev pub report-of : Ran → Report
 report-of ran = record { number = number (ran .reply); detail = detail (ran .reply); entries = ran .entries; used = ran .used }
 
--- a run that is as P says, reported. P is one of `Leaves` and its kin, which leave no choice of the run.
-pub record Reports (P : Ran → Type 0) (r : Report) : Type 0 where
-  pub ran : Ran
-  pub left : P ran
-  pub reported : r ≡ report-of ran
+-- r and the log after it are those of the outcome o: the entries from the log's front on, and the rest of the log as it was
+pub record Reports {S : Type 0} (o : Outcome S Reply) (before after : List ℕ) (r : Report) : Type 0 where
+  pub number : r .number ≡ number (o .answer)
+  pub detail : r .detail ≡ detail (o .answer)
+  pub entries : r .entries ≡ length (o .log)
+  pub used : r .used ≡ reads-in (o .log)
+  pub log : after ≡ encode (o .log) ++ drop (length (o .log) * 2) before
 
--- the slave's state without an enum; the byte counts only where one is kept
+-- and so is the lent buffer
+pub record ReportsBuffer {S : Type 0} (o : Outcome S Reply) (before after b : List ℕ) (r : Report) : Type 0 where
+  pub report : Reports o before after r
+  pub buffer : b ≡ o .buffer
+
+-- ---- the slave's state without an enum
+
+-- coming in, the byte counts only where one is kept
 abbrev pub pending-of : Bool → ℕ → Pending
 pending-of false b = None
 pending-of true b = Byte b
@@ -33,8 +48,30 @@ state-of s = record {
   «general_call» = s .«general_call»;
 }
 
--- a run with the state that it leaves, reported
-pub record ReportsState (P : Ran → SlaveState → Type 0) (r : SlaveReport) : Type 0 where
-  pub ran : Ran
-  pub left : P ran (state-of (r .state))
-  pub reported : r .report ≡ report-of ran
+-- going out, the place of a byte that is not kept is 0
+abbrev pub byte-of : Pending → ℕ
+byte-of None = 0
+byte-of (Byte b) = b
+
+abbrev pub numbers-of : SlaveState → Slave
+numbers-of s = record {
+  «has_pending» = is-some (s .«pending_byte»);
+  «pending_byte» = byte-of (s .«pending_byte»);
+  address = s .address;
+  «general_call» = s .«general_call»;
+}
+
+-- the numbers that a call hands out are, handed in to the next call, the state that the first one left
+abbrev pub HandedOn : Type 0
+HandedOn = (s : SlaveState) → state-of (numbers-of s) ≡ s
+
+-- the report and the log, and the state as numbers
+pub record ReportsState (o : Outcome SlaveState Reply) (before after : List ℕ) (r : SlaveReport) : Type 0 where
+  pub report : Reports o before after (r .report)
+  pub state : r .state ≡ numbers-of (o .state)
+
+-- and the lent buffer
+pub record ReportsAll (o : Outcome SlaveState Reply) (before after b : List ℕ) (r : SlaveReport) : Type 0 where
+  pub report : Reports o before after (r .report)
+  pub buffer : b ≡ o .buffer
+  pub state : r .state ≡ numbers-of (o .state)

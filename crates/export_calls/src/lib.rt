@@ -8,11 +8,11 @@ use regs::access::Ran;
 ghost use mathlib.Core.Path.{_≡_};
 ghost use mathlib.Core.List.{[]};
 ghost use lib.ListN.{length};
-ghost use Rattle.regs.specs.Log.{Leaves, LeavesBuffer, expected};
+ghost use Rattle.regs.specs.Log.{expected};
 ghost use Rattle.clock.specs.SetConfig.{set-config};
 ghost use Rattle.master.specs.Operations as Spec;
 ghost use Rattle.master.specs.Transfer.{read-call, write-call, write-read-call, transaction-call};
-ghost use Rattle.export_calls.specs.Report.{report-of, Reports};
+ghost use Rattle.export_calls.specs.Report.{report-of, Reports, ReportsBuffer};
 
 // What a call answers, the entries that it left in the log and the readings that it used.
 #[repr(C)]
@@ -23,7 +23,8 @@ pub struct Report {
     pub used: usize,
 }
 
-// The slave's state: what lasts from call to call. The byte counts only where one is kept.
+// The slave's state: what lasts from call to call. The byte counts
+// only where one is kept, and is given as 0 where none is.
 #[repr(C)]
 pub struct Slave {
     pub has_pending: bool,
@@ -60,9 +61,8 @@ pub extern "C" fn celadonsaw_set_config(
     log: &mut [u32],
 ) -> Report
     ensures { λ r. ⌜ Reports
-        (Leaves (expected (set-config frequency clk) (now (log .entry)) (now (readings .entry)) [] tt)
-        (now (log .entry)) (now (log .exit)))
-        r ⌝ }
+        (expected (set-config frequency clk) (now (log .entry)) (now (readings .entry)) [] tt)
+        (now (log .entry)) (now (log .exit)) r ⌝ }
 {
     told(clock::set_config(frequency, clk, readings, log))
 }
@@ -75,11 +75,10 @@ pub extern "C" fn celadonsaw_blocking_read(
     readings: &[u32],
     log: &mut [u32],
 ) -> Report
-    ensures { λ r. ⌜ Reports
-        (LeavesBuffer (expected (read-call Spec.blocking address (length (now (read .entry))))
+    ensures { λ r. ⌜ ReportsBuffer
+        (expected (read-call Spec.blocking address (length (now (read .entry))))
         (now (log .entry)) (now (readings .entry)) (now (read .entry)) tt)
-        (now (log .entry)) (now (log .exit)) (now (read .exit)))
-        r ⌝ }
+        (now (log .entry)) (now (log .exit)) (now (read .exit)) r ⌝ }
 {
     told(i2c::calls::blocking_read(address, read, readings, log))
 }
@@ -93,10 +92,9 @@ pub extern "C" fn celadonsaw_blocking_write(
     log: &mut [u32],
 ) -> Report
     ensures { λ r. ⌜ Reports
-        (Leaves (expected (write-call Spec.blocking address (now (write .entry))) (now (log .entry))
+        (expected (write-call Spec.blocking address (now (write .entry))) (now (log .entry))
         (now (readings .entry)) [] tt)
-        (now (log .entry)) (now (log .exit)))
-        r ⌝ }
+        (now (log .entry)) (now (log .exit)) r ⌝ }
 {
     told(i2c::calls::blocking_write(address, write, readings, log))
 }
@@ -110,12 +108,11 @@ pub extern "C" fn celadonsaw_blocking_write_read(
     readings: &[u32],
     log: &mut [u32],
 ) -> Report
-    ensures { λ r. ⌜ Reports
-        (LeavesBuffer (expected
+    ensures { λ r. ⌜ ReportsBuffer
+        (expected
         (write-read-call Spec.blocking address (now (write .entry)) (length (now (read .entry))))
         (now (log .entry)) (now (readings .entry)) (now (read .entry)) tt)
-        (now (log .entry)) (now (log .exit)) (now (read .exit)))
-        r ⌝ }
+        (now (log .entry)) (now (log .exit)) (now (read .exit)) r ⌝ }
 {
     told(i2c::calls::blocking_write_read(address, write, read, readings, log))
 }
@@ -131,12 +128,11 @@ pub extern "C" fn celadonsaw_transaction(
     readings: &[u32],
     log: &mut [u32],
 ) -> Report
-    ensures { λ r. ⌜ Reports
-        (LeavesBuffer (expected (transaction-call Spec.blocking address (now (kinds .entry))
+    ensures { λ r. ⌜ ReportsBuffer
+        (expected (transaction-call Spec.blocking address (now (kinds .entry))
         (now (lengths .entry)) (now (write .entry)) (length (now (read .entry))))
         (now (log .entry)) (now (readings .entry)) (now (read .entry)) tt)
-        (now (log .entry)) (now (log .exit)) (now (read .exit)))
-        r ⌝ }
+        (now (log .entry)) (now (log .exit)) (now (read .exit)) r ⌝ }
 {
     told(i2c::calls::transaction(address, kinds, lengths, write, read, readings, log))
 }
@@ -149,11 +145,10 @@ pub extern "C" fn celadonsaw_read_async(
     readings: &[u32],
     log: &mut [u32],
 ) -> Report
-    ensures { λ r. ⌜ Reports
-        (LeavesBuffer (expected (read-call Spec.async address (length (now (read .entry)))) (now (log .entry))
+    ensures { λ r. ⌜ ReportsBuffer
+        (expected (read-call Spec.async address (length (now (read .entry)))) (now (log .entry))
         (now (readings .entry)) (now (read .entry)) tt)
-        (now (log .entry)) (now (log .exit)) (now (read .exit)))
-        r ⌝ }
+        (now (log .entry)) (now (log .exit)) (now (read .exit)) r ⌝ }
 {
     told(i2c::calls::read_async(address, read, readings, log))
 }
@@ -167,10 +162,9 @@ pub extern "C" fn celadonsaw_write_async(
     log: &mut [u32],
 ) -> Report
     ensures { λ r. ⌜ Reports
-        (Leaves (expected (write-call Spec.async address (now (write .entry))) (now (log .entry))
+        (expected (write-call Spec.async address (now (write .entry))) (now (log .entry))
         (now (readings .entry)) [] tt)
-        (now (log .entry)) (now (log .exit)))
-        r ⌝ }
+        (now (log .entry)) (now (log .exit)) r ⌝ }
 {
     told(i2c::calls::write_async(address, write, readings, log))
 }
@@ -184,12 +178,11 @@ pub extern "C" fn celadonsaw_write_read_async(
     readings: &[u32],
     log: &mut [u32],
 ) -> Report
-    ensures { λ r. ⌜ Reports
-        (LeavesBuffer (expected
+    ensures { λ r. ⌜ ReportsBuffer
+        (expected
         (write-read-call Spec.async address (now (write .entry)) (length (now (read .entry))))
         (now (log .entry)) (now (readings .entry)) (now (read .entry)) tt)
-        (now (log .entry)) (now (log .exit)) (now (read .exit)))
-        r ⌝ }
+        (now (log .entry)) (now (log .exit)) (now (read .exit)) r ⌝ }
 {
     told(i2c::calls::write_read_async(address, write, read, readings, log))
 }
@@ -205,12 +198,11 @@ pub extern "C" fn celadonsaw_transaction_async(
     readings: &[u32],
     log: &mut [u32],
 ) -> Report
-    ensures { λ r. ⌜ Reports
-        (LeavesBuffer (expected (transaction-call Spec.async address (now (kinds .entry))
+    ensures { λ r. ⌜ ReportsBuffer
+        (expected (transaction-call Spec.async address (now (kinds .entry))
         (now (lengths .entry)) (now (write .entry)) (length (now (read .entry))))
         (now (log .entry)) (now (readings .entry)) (now (read .entry)) tt)
-        (now (log .entry)) (now (log .exit)) (now (read .exit)))
-        r ⌝ }
+        (now (log .entry)) (now (log .exit)) (now (read .exit)) r ⌝ }
 {
     told(i2c::calls::transaction_async(address, kinds, lengths, write, read, readings, log))
 }

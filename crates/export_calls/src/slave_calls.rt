@@ -2,16 +2,17 @@
 use super::Slave;
 use super::SlaveReport;
 use super::told;
-use slave::Pending;
-use slave::SlaveState;
-use slave_run::Left;
+use i2c_slave::Left;
+use i2c_slave::Pending;
+use i2c_slave::SlaveState;
 ghost use mathlib.Core.Path.{_≡_};
 ghost use mathlib.Core.List.{[]};
 ghost use lib.ListN.{length};
-ghost use Rattle.regs.specs.Log.{LeavesState, LeavesAll, expected};
+ghost use Rattle.regs.specs.Log.{expected};
 ghost use Rattle.slave.specs.I2cSlave.{reset-call, listen-call, respond-to-read-call, respond-till-stop-call};
 ghost use Rattle.slave.specs.I2cSlave.{respond-and-fill-call};
-ghost use Rattle.export_calls.specs.Report.{report-of, pending-of, state-of, ReportsState};
+ghost use Rattle.export_calls.specs.Report.{report-of, pending-of, state-of, numbers-of};
+ghost use Rattle.export_calls.specs.Report.{ReportsState, ReportsAll};
 
 fn pending(has: bool, byte: u8) -> Pending
     ensures { λ r. ⌜ r ≡ pending-of has byte ⌝ }
@@ -35,7 +36,7 @@ fn state(s: Slave) -> SlaveState
 
 // The state as numbers. Where no byte is kept, its place is 0.
 fn numbers(s: SlaveState) -> Slave
-    ensures { λ r. ⌜ state-of r ≡ s ⌝ }
+    ensures { λ r. ⌜ r ≡ numbers-of s ⌝ }
 {
     let p = s.pending_byte;
     match p {
@@ -55,7 +56,7 @@ fn numbers(s: SlaveState) -> Slave
 }
 
 fn both(l: Left) -> SlaveReport
-    ensures { λ r. ⌜ (state-of (r .state) ≡ l .state)
+    ensures { λ r. ⌜ (r .state ≡ numbers-of (l .state))
         × (r .report ≡ report-of (l .ran)) ⌝ }
 {
     let s = l.state;
@@ -76,12 +77,11 @@ pub extern "C" fn celadonsaw_slave_reset(
     log: &mut [u32],
 ) -> SlaveReport
     ensures { λ r. ⌜ ReportsState
-        (LeavesState (expected (reset-call address «general_call») (now (log .entry)) (now (readings .entry))
+        (expected (reset-call address «general_call») (now (log .entry)) (now (readings .entry))
         [] (state-of slave))
-        (now (log .entry)) (now (log .exit)))
-        r ⌝ }
+        (now (log .entry)) (now (log .exit)) r ⌝ }
 {
-    both(slave_run::reset_from(state(slave), address, general_call, readings, log))
+    both(i2c_slave::reset(state(slave), address, general_call, readings, log))
 }
 
 // `listen`, into the buffer.
@@ -92,13 +92,12 @@ pub extern "C" fn celadonsaw_slave_listen(
     readings: &[u32],
     log: &mut [u32],
 ) -> SlaveReport
-    ensures { λ r. ⌜ ReportsState
-        (LeavesAll (expected (listen-call (length (now (buffer .entry)))) (now (log .entry))
+    ensures { λ r. ⌜ ReportsAll
+        (expected (listen-call (length (now (buffer .entry)))) (now (log .entry))
         (now (readings .entry)) (now (buffer .entry)) (state-of slave))
-        (now (log .entry)) (now (log .exit)) (now (buffer .exit)))
-        r ⌝ }
+        (now (log .entry)) (now (log .exit)) (now (buffer .exit)) r ⌝ }
 {
-    both(slave_run::listen_from(state(slave), buffer, readings, log))
+    both(i2c_slave::listen(state(slave), buffer, readings, log))
 }
 
 // `respond_to_read`, with the bytes.
@@ -110,12 +109,11 @@ pub extern "C" fn celadonsaw_slave_respond_to_read(
     log: &mut [u32],
 ) -> SlaveReport
     ensures { λ r. ⌜ ReportsState
-        (LeavesState (expected (respond-to-read-call (now (bytes .entry))) (now (log .entry))
+        (expected (respond-to-read-call (now (bytes .entry))) (now (log .entry))
         (now (readings .entry)) [] (state-of slave))
-        (now (log .entry)) (now (log .exit)))
-        r ⌝ }
+        (now (log .entry)) (now (log .exit)) r ⌝ }
 {
-    both(slave_run::respond_to_read_from(state(slave), bytes, readings, log))
+    both(i2c_slave::respond_to_read(state(slave), bytes, readings, log))
 }
 
 // `respond_till_stop`, with the fill byte.
@@ -127,12 +125,11 @@ pub extern "C" fn celadonsaw_slave_respond_till_stop(
     log: &mut [u32],
 ) -> SlaveReport
     ensures { λ r. ⌜ ReportsState
-        (LeavesState (expected (respond-till-stop-call fill) (now (log .entry)) (now (readings .entry)) []
+        (expected (respond-till-stop-call fill) (now (log .entry)) (now (readings .entry)) []
         (state-of slave))
-        (now (log .entry)) (now (log .exit)))
-        r ⌝ }
+        (now (log .entry)) (now (log .exit)) r ⌝ }
 {
-    both(slave_run::respond_till_stop_from(state(slave), fill, readings, log))
+    both(i2c_slave::respond_till_stop(state(slave), fill, readings, log))
 }
 
 // `respond_and_fill`, with the bytes and then the fill byte.
@@ -145,10 +142,9 @@ pub extern "C" fn celadonsaw_slave_respond_and_fill(
     log: &mut [u32],
 ) -> SlaveReport
     ensures { λ r. ⌜ ReportsState
-        (LeavesState (expected (respond-and-fill-call (now (bytes .entry)) fill) (now (log .entry))
+        (expected (respond-and-fill-call (now (bytes .entry)) fill) (now (log .entry))
         (now (readings .entry)) [] (state-of slave))
-        (now (log .entry)) (now (log .exit)))
-        r ⌝ }
+        (now (log .entry)) (now (log .exit)) r ⌝ }
 {
-    both(slave_run::respond_and_fill_from(state(slave), bytes, fill, readings, log))
+    both(i2c_slave::respond_and_fill(state(slave), bytes, fill, readings, log))
 }

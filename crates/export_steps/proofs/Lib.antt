@@ -1,2 +1,6 @@
 -- What holds of the steps.
+pub mod KindsOfForm
 pub mod Driven
+pub mod Forms
+pub mod Looped
+pub mod EveryLoop

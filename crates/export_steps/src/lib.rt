@@ -11,10 +11,10 @@ use transfer::Transfer;
 use words::ROW;
 use words::WORD;
 ghost use mathlib.Core.Path.{_≡_};
-ghost use Rattle.regs.specs.inner.Machine.{stored-in};
-ghost use Rattle.words_points.specs.Held.{held-of, advanced-held, store-held};
-ghost use Rattle.words.specs.inner.Words.{held-at};
-ghost use Rattle.export_steps.specs.Steps.{access-of, access-held, over-limits, first-of};
+ghost use mathlib.Core.List.{[], _∷_};
+ghost use Rattle.export_steps.specs.Forms.{same, fits-form, accepts};
+ghost use Rattle.export_steps.specs.inner.Steps.{access-of, over-limits};
+ghost use Rattle.export_steps.specs.inner.Steps.{Starts, Tells, Moves, Stores};
 
 // The access that is next: kind 1 reads the register, 2 writes the value to it,
 // 3 is a mark (register 0: a poll that is not done; 1: a reset of the block),
@@ -77,25 +77,74 @@ fn refuse(t: Transfer) -> Transfer
     }
 }
 
-// A transfer before its first access. `queued` takes the async form. `restart` is false for a
-// transaction, true for a read, a write or a write-read. `kinds` (0 a read, 1 a write) and `lengths`
-// list the operations, `written` and `room` are the lengths of the write and the read buffer.
+fn is_one(kinds: &[u8], kind: u8) -> bool
+    ensures { λ r. ⌜ r ≡ same (now (kinds .entry)) (kind ∷ []) ⌝ }
+{
+    if kinds.len() == 1 {
+        return kinds[0] == kind;
+    }
+    false
+}
+
+fn are_two(kinds: &[u8], first: u8, second: u8) -> bool
+    ensures { λ r. ⌜ r ≡ same (now (kinds .entry)) (first ∷ second ∷ []) ⌝ }
+{
+    if kinds.len() == 2 {
+        return (kinds[0] == first) & (kinds[1] == second);
+    }
+    false
+}
+
+// Whether the kinds are those of the form: one read, one write, a write and a read, or any.
+fn are_of_form(form: u8, kinds: &[u8]) -> bool
+    ensures { λ r. ⌜ r ≡ fits-form form (now (kinds .entry)) ⌝ }
+{
+    if 7 < form {
+        return false;
+    }
+    let shape = form % 4;
+    if shape == 0 {
+        return is_one(kinds, 0);
+    }
+    if shape == 1 {
+        return is_one(kinds, 1);
+    }
+    if shape == 2 {
+        return are_two(kinds, 1, 0);
+    }
+    true
+}
+
+fn is_accepted(form: u8, kinds: &[u8], lengths: &[u16], written: usize, room: usize) -> bool
+    ensures { λ r. ⌜ r ≡ accepts form (now (kinds .entry)) (now (lengths .entry)) written room ⌝ }
+{
+    if are_of_form(form, kinds) {
+        return is_listed(kinds, lengths, written, room);
+    }
+    false
+}
+
+// A transfer before its first access, by its form: 0 a blocking read, 1 a write, 2 a write-read,
+// 3 a transaction; 4 to 7 the async ones. `kinds` (0 a read, 1 a write) and `lengths` list the
+// operations, `written` and `room` are the lengths of the write and the read buffer.
 #[no_mangle]
 pub extern "C" fn celadonsaw_start(
     words: &mut [u64; 20],
-    queued: bool,
-    restart: bool,
+    form: u8,
     address: u16,
     kinds: &[u8],
     lengths: &[u16],
     written: usize,
     room: usize,
 )
-    ensures { λ _. ⌜ held-at (now (words .exit)) ≡ held-of
-        (first-of queued restart address (now (kinds .entry)) (now (lengths .entry)) written room) ⌝ }
+    ensures { λ _. ⌜ Starts form address (now (kinds .entry)) (now (lengths .entry)) written room
+        (now (words .exit)) ⌝ }
 {
-    let t = transfer_steps::start(words::mode(queued), restart, address, kinds);
-    if is_listed(kinds, lengths, written, room) {
+    let mode = words::mode(3 < form);
+    // The reads of a transaction carry no RESTART.
+    let restart = form % 4 != 3;
+    let t = transfer_steps::start(mode, restart, address, kinds);
+    if is_accepted(form, kinds, lengths, written, room) {
         words::put(words, t);
     } else {
         words::put(words, refuse(t));
@@ -105,7 +154,7 @@ pub extern "C" fn celadonsaw_start(
 // The access that is next. `write` is the write buffer.
 #[no_mangle]
 pub extern "C" fn celadonsaw_next_access(words: &[u64; 20], write: &[u8]) -> Access
-    ensures { λ r. ⌜ r ≡ access-held (now (write .entry)) (held-at (now (words .entry))) ⌝ }
+    ensures { λ r. ⌜ Tells (now (words .entry)) (now (write .entry)) r ⌝ }
 {
     if words::ended(words) {
         return Access {
@@ -120,8 +169,8 @@ pub extern "C" fn celadonsaw_next_access(words: &[u64; 20], write: &[u8]) -> Acc
 
 // A step that is not made on the words: they are decoded, and the transfer after the step is put back.
 fn by_points(words: &mut [u64; 20], value: u32, kinds: &[u8], lengths: &[u16])
-    ensures { λ _. ⌜ held-at (now (words .exit)) ≡ advanced-held (now (kinds .entry)) (now (lengths .entry))
-        (held-at (now (words .entry))) value ⌝ }
+    ensures { λ _. ⌜ Moves (now (kinds .entry)) (now (lengths .entry)) (now (words .entry)) value
+        (now (words .exit)) ⌝ }
 {
     if words::ended(words) {
         return;
@@ -140,10 +189,9 @@ pub extern "C" fn celadonsaw_advance(
     lengths: &[u16],
     read: &mut [u8],
 )
-    ensures { λ _. ⌜ held-at (now (words .exit)) ≡ advanced-held (now (kinds .entry)) (now (lengths .entry))
-        (held-at (now (words .entry))) value ⌝ }
-    ensures { λ _. ⌜ now (read .exit) ≡ stored-in (now (read .entry))
-        (store-held (held-at (now (words .entry))) value) ⌝ }
+    ensures { λ _. ⌜ Moves (now (kinds .entry)) (now (lengths .entry)) (now (words .entry)) value
+        (now (words .exit)) ⌝ }
+    ensures { λ _. ⌜ Stores (now (words .entry)) value (now (read .entry)) (now (read .exit)) ⌝ }
 {
     regs::access::keep(read, words_access::store(words, value));
     by_points(words, value, kinds, lengths);
@@ -160,11 +208,10 @@ pub extern "C" fn celadonsaw_step(
     write: &[u8],
     read: &mut [u8],
 ) -> Access
-    ensures { λ r. ⌜ r ≡ access-held (now (write .entry)) (held-at (now (words .exit))) ⌝ }
-    ensures { λ _. ⌜ held-at (now (words .exit)) ≡ advanced-held (now (kinds .entry)) (now (lengths .entry))
-        (held-at (now (words .entry))) value ⌝ }
-    ensures { λ _. ⌜ now (read .exit) ≡ stored-in (now (read .entry))
-        (store-held (held-at (now (words .entry))) value) ⌝ }
+    ensures { λ r. ⌜ Tells (now (words .exit)) (now (write .entry)) r ⌝ }
+    ensures { λ _. ⌜ Moves (now (kinds .entry)) (now (lengths .entry)) (now (words .entry)) value
+        (now (words .exit)) ⌝ }
+    ensures { λ _. ⌜ Stores (now (words .entry)) value (now (read .entry)) (now (read .exit)) ⌝ }
 {
     regs::access::keep(read, words_access::store(words, value));
     let code = words_steps::step(words, value);

@@ -10,7 +10,7 @@ use Rattle.regs.specs.Program.{if_then_else_, Behaviour, ends, reads, writes, m
 use Rattle.regs.specs.Program.{pending, ready, polled, wait-on, return, modify}
 use Rattle.regs.specs.Registers.{INTR-MASK, RAW-INTR-STAT, CLR-STOP-DET}
 use Rattle.regs.specs.Fields.{stop-det, set-m-stop-det, set-m-tx-abrt}
-use Rattle.regs.specs.inner.Machine.{Machine}
+use Rattle.regs.specs.Steps.{Machine}
 use Rattle.regs.specs.declared.answers.AbortReason.{AbortReason}
 use Rattle.regs.specs.declared.answers.Answer.{Answer}
 use Rattle.regs.specs.declared.answers.Answer.the-variants.{Refused}

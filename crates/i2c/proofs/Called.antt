@@ -36,7 +36,7 @@ module _ (limits : Bool) (p : Driver Answer) (readings before b₀ : List ℕ) {
   unfolding outcome
   refused-buffer = rw (q, e) (record { ran = record { reply = refl; entries = refl; used = refl; log = refl }; buffer = refl })
 
-fits-is : (n : ℕ) → fits n ≡ true → n ≤ 4096
+pub fits-is : (n : ℕ) → fits n ≡ true → n ≤ 4096
 fits-is n q = leb-true n 4096 q
 
 -- what the test of the limits says of kinds and lengths

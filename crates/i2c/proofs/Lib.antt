@@ -12,3 +12,4 @@ pub mod Transfers
 pub mod Called
 pub mod Sums
 pub mod Bounds
+pub mod Stepped

@@ -12,7 +12,7 @@ use Rattle.regs.proofs.Tests.{by-test}
 use Rattle.regs.specs.Program.{_>>_, Behaviour, by-turn, rounds, wait-on, put, modify}
 use Rattle.regs.specs.Registers.{INTR-MASK, RX-TL}
 use Rattle.regs.specs.Fields.{dat, level, set-m-rx-full, set-m-tx-abrt}
-use Rattle.regs.specs.inner.Machine.{Machine}
+use Rattle.regs.specs.Steps.{Machine}
 use Rattle.regs.specs.declared.answers.Answer.{Answer}
 use Rattle.regs.proofs.Refine.{ends-agree, reads-agree, writes-agree, stores-agree, loop-agree}
 use Rattle.master.specs.Driver.{tx-fifo-capacity, rx-fifo-len}

@@ -1,18 +1,16 @@
--- Computed: examples (g), (h) and (j) of docs/MANUAL.md, a sequence alone,
--- corners of the Rust, number 20, and what happens without demand 3's premises.
+-- Computed: a sequence alone, corners of the Rust, number 20, and what happens without demand 3's premises.
 use Prim.Native.Nat.{ℕ}
 use mathlib.Core.Bool.{true, false}
 use mathlib.Core.Path.{_≡_, refl}
 use mathlib.Core.List.{List, [], _∷_}
 use lib.ListN.{replicate}
 use Rattle.regs.specs.declared.access.Entry.the-variants.{Read, Write, Marked}
-use Rattle.regs.specs.declared.answers.AbortReason.the-variants.{ArbitrationLoss, Other}
-use Rattle.regs.specs.declared.answers.Refusal.the-variants.{AddressOutOfRange, InvalidReadBufferLength}
-use Rattle.regs.specs.declared.answers.Refusal.the-variants.{InvalidWriteBufferLength, Abort, TxLevelOutOfRange}
-use Rattle.regs.specs.declared.answers.Refusal.the-variants.{OverLimits}
+use Rattle.regs.specs.declared.answers.AbortReason.the-variants.{NoAcknowledge, ArbitrationLoss, Other}
+use Rattle.regs.specs.declared.answers.Refusal.the-variants.{Abort, TxLevelOutOfRange, OverLimits}
 use Rattle.regs.specs.declared.answers.Answer.the-variants.{Accepted, Refused}
 use Rattle.regs.specs.declared.answers.Reply.{Reply}
 use Rattle.regs.specs.declared.answers.Reply.the-variants.{Answered, OutOfReadings, LogFull}
+use Rattle.regs.specs.Answers.{number}
 use Rattle.regs.specs.Registers.{DATA-CMD}
 use Rattle.regs.specs.Fields.{set-field}
 use Rattle.regs.specs.Program.{Outcome, outcome, turns, rounds, behaviour}
@@ -38,38 +36,6 @@ Makes o ss = (o .answer ≡ Answered Accepted) × (bus-sequence (o .log) ≡ ss)
 -- it is accepted, and writes these words to DATA_CMD
 abbrev Words : Outcome (Unit {0}) Reply → List ℕ → Type 0
 Words o ws = (o .answer ≡ Answered Accepted) × (written-to DATA-CMD (o .log) ≡ ws)
-
--- docs/MANUAL.md, "Worked examples"
-pub record Papers : Type 0 where
-  -- (g) one-byte read word 0x700
-  pub g-blocking : Words (left blocking 0x50 (read 1) (0 ∷ 1 ∷ 0xAA ∷ [])) (0x700 ∷ [])
-  pub g-async : Words (left async 0x50 (read 1) (0 ∷ 1 ∷ 0 ∷ 0xAA ∷ 0 ∷ 0x200 ∷ 0 ∷ [])) (0x700 ∷ [])
-  -- (h) last byte 0x5A written: 0x25A
-  pub h-blocking : Words (left blocking 0x50 (write (0x5A ∷ [])) (0x10 ∷ 0 ∷ 0x200 ∷ 0 ∷ [])) (0x25A ∷ [])
-  pub h-async : Words (left async 0x50 (write (0x5A ∷ [])) (0 ∷ 0 ∷ 0x200 ∷ 0 ∷ [])) (0x25A ∷ [])
-  -- (j) address 0x7F accepted, 0x80 is 6
-  pub j-accepted : Makes (left blocking 0x7F (read 1) (0 ∷ 1 ∷ 0xAA ∷ [])) (START ∷ address-byte 0xFF ∷ read-slot ∷ STOP ∷ [])
-  pub j-refused : (left blocking 0x80 (read 1) [] .answer ≡ Answered (Refused (AddressOutOfRange 0x80)))
-      × (left blocking 0x80 (read 1) [] .log ≡ [])
-  pub j-refused-async : (left async 0x80 (read 1) [] .answer ≡ Answered (Refused (AddressOutOfRange 0x80)))
-      × (left async 0x80 (read 1) [] .log ≡ [])
-
-pub papers : Papers
-unfolding outcome turns rounds setup tx-fifo-capacity tx-fifo-full rx-fifo-len read-and-clear-abort-reason
-    read-blocking-bytes read-blocking-internal write-blocking-bytes write-blocking-internal wait-stop-det
-    queue-batch
-    fetch-bytes read-async-internal fill write-async-internal each-operation blocking-read blocking-write
-    blocking-write-read blocking-transaction read-async write-async write-read-async transaction-async signs
-    written-to
-papers = record {
-  g-blocking = (refl, refl);
-  g-async = (refl, refl);
-  h-blocking = (refl, refl);
-  h-async = (refl, refl);
-  j-accepted = (refl, refl);
-  j-refused = (refl, refl);
-  j-refused-async = (refl, refl);
-}
 
 -- a sequence of joined operations, alone, and what it tells
 pub record Alone : Type 0 where
@@ -139,10 +105,26 @@ pub record Corners : Type 0 where
       ∷ Read 0x10 0xAA ∷ Read 0x80 0 ∷ Read 0x34 0x200 ∷ Read 0x60 0 ∷ []
   -- TXFLR above 16
   pub level-refused : left async 0x50 (read 1) (17 ∷ []) .answer ≡ Answered (Refused (TxLevelOutOfRange 17))
+  -- after a first abort the wait for STOP goes on to RAW_INTR_STAT, whatever the source says then, and the first is answered
+  pub first-abort-wins : (left async 0x50 (read 1) (0 ∷ 0 ∷ 1 ∷ 0 ∷ 0x1000 ∷ 0 ∷ 0x200 ∷ 0 ∷ []) .answer
+      ≡ Answered (Refused (Abort NoAcknowledge)))
+      × (left async 0x50 (read 1) (0 ∷ 0 ∷ 1 ∷ 0 ∷ 0x1000 ∷ 0 ∷ 0x200 ∷ 0 ∷ []) .log
+      ≡ Write 0x6C 0 ∷ Write 0x04 0x50 ∷ Write 0x6C 1 ∷ Read 0x74 0 ∷ Write 0x10 0x700 ∷ Read 0x78 0 ∷ Read 0x80 1 ∷ Read 0x54 0
+      ∷ Read 0x80 0x1000 ∷ Read 0x54 0 ∷ Read 0x34 0x200 ∷ Read 0x60 0 ∷ [])
+  -- a wait for STOP that is not over unmasks STOP_DET and TX_ABRT
+  pub stop-awaited : left async 0x50 (write (0x11 ∷ [])) (0 ∷ 0 ∷ 0 ∷ 0 ∷ []) .log
+      ≡ Write 0x6C 0 ∷ Write 0x04 0x50 ∷ Write 0x6C 1 ∷ Read 0x74 0 ∷ Write 0x10 0x211 ∷ Read 0x80 0 ∷ Read 0x34 0
+      ∷ Read 0x30 0 ∷ Write 0x30 0x240 ∷ Marked 0 ∷ []
+  -- a wait for a free place that is not over sets TX_TL to 1 and unmasks TX_EMPTY and TX_ABRT
+  pub place-awaited : left async 0x50 (write (0x11 ∷ [])) (16 ∷ 0 ∷ 16 ∷ 0 ∷ []) .log
+      ≡ Write 0x6C 0 ∷ Write 0x04 0x50 ∷ Write 0x6C 1 ∷ Read 0x74 16 ∷ Read 0x80 0 ∷ Read 0x74 16
+      ∷ Write 0x3C 1 ∷ Read 0x30 0 ∷ Write 0x30 0x50 ∷ Marked 0 ∷ []
   -- an empty read is met after `setup`
-  pub empty-read : (left async 0x50 (read 0) [] .answer ≡ Answered (Refused InvalidReadBufferLength))
+  pub empty-read : (number (left blocking 0x50 (read 0) [] .answer) ≡ 7)
+      × (left blocking 0x50 (read 0) [] .log ≡ Write 0x6C 0 ∷ Write 0x04 0x50 ∷ Write 0x6C 1 ∷ [])
+  pub empty-read-async : (number (left async 0x50 (read 0) [] .answer) ≡ 7)
       × (left async 0x50 (read 0) [] .log ≡ Write 0x6C 0 ∷ Write 0x04 0x50 ∷ Write 0x6C 1 ∷ [])
-  pub empty-write : left blocking 0x50 (write []) [] .answer ≡ Answered (Refused InvalidWriteBufferLength)
+  pub empty-write : number (left blocking 0x50 (write []) [] .answer) ≡ 8
 
 pub corners : Corners
 unfolding outcome turns rounds setup tx-fifo-capacity tx-fifo-full rx-fifo-len read-and-clear-abort-reason
@@ -167,7 +149,11 @@ corners = record {
   late-abort = (refl, refl);
   no-more-than-asked = refl;
   level-refused = refl;
+  first-abort-wins = (refl, refl);
+  stop-awaited = refl;
+  place-awaited = refl;
   empty-read = (refl, refl);
+  empty-read-async = (refl, refl);
   empty-write = refl;
 }
 

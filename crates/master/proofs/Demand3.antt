@@ -1,11 +1,12 @@
--- Demand 3, proved: `same-sequence`, with `sequence-of-run` and `told-by-run` (specs/Demand3.antt has the statements).
-use Prim.Native.Nat.{ℕ, zero, suc, _+_, _≤_, _<_}
+-- Demand 3, proved: `same-sequence`, with `sequence-of-call` and `told-by-call` (specs/Demand3.antt has the statements).
+use Prim.Native.Nat.{ℕ, zero, suc, _+_, _/_, _≤_, _<_}
 use native.Mathlib.Omega.{arith}
 use mathlib.Core.Path.{_≡_, refl, ap, ap₂, sym, _∙_}
 use mathlib.Core.Logic.{_≢_}
 use mathlib.Core.Bool.{Bool, true, false, not, _&&_}
-use mathlib.Core.List.{List, [], _∷_, _++_, map}
+use mathlib.Core.List.{List, [], _∷_, _++_}
 use lib.Dec.{eqb, eqb→eq, ltb}
+use lib.ListN.{length}
 use borrow.Author.Tests.{ltb-true}
 use Rattle.regs.specs.declared.access.Entry.{Entry}
 use Rattle.regs.specs.declared.access.Entry.the-variants.{Read, Write, Marked}
@@ -13,12 +14,13 @@ use Rattle.regs.specs.declared.answers.Refusal.the-variants.{AddressOutOfRange}
 use Rattle.regs.specs.declared.answers.Answer.{Answer}
 use Rattle.regs.specs.declared.answers.Answer.the-variants.{Accepted, Refused}
 use Rattle.regs.specs.declared.answers.Reply.{Reply}
-use Rattle.regs.specs.declared.answers.Reply.the-variants.{Answered}
+use Rattle.regs.specs.Answers.{number}
 use Rattle.regs.specs.Registers.{TAR, DATA-CMD, RXFLR, ENABLE}
 use Rattle.regs.specs.Fields.{address-field, cmd, level}
 use Rattle.regs.specs.Program as P
 use Rattle.regs.specs.Program.{if_then_else_, exit, when, ends, Outcome, outcome}
 use Rattle.regs.specs.Log.{Each}
+use Rattle.regs.proofs.RoundTrip.{read-back}
 use Rattle.bus.specs.declared.Bus.the-variants.{Idle}
 use Rattle.bus.specs.Bus.{written-to}
 use Rattle.master.specs.Driver.{Driver, setup}
@@ -28,13 +30,16 @@ use Rattle.master.specs.Transfer.{blocking-read, blocking-write, blockin
 use Rattle.master.specs.Transfer.{read-async, write-async, write-read-async, transaction-async, transfer}
 use Rattle.master.specs.Transfer.{within}
 use Rattle.master.specs.Sequence.{joined-to, joined, sequence, told}
-use Rattle.master.specs.Demand3.{Byte, values, plain-operation, plain, operations, taken-by, taken-in}
-use Rattle.master.specs.Demand3.{issued-by, issued-in, SameSequence, SequenceOfRun, ToldByRun}
+use Rattle.master.specs.Calls.{within-limits, buffer-in, left-by-call}
+use Rattle.master.specs.Demand3.{Made, address, operations, log-of, taken-by, taken-in, issued-by, issued-in}
+use Rattle.master.specs.Demand3.{Premises, SameSequence, SequenceOfCall, ToldByCall}
 use Rattle.master.proofs.Words.{all-words}
-use Rattle.master.proofs.Sequence.{Bytes, OfBytes, AllHarmless, harmless-unset, words-make-sequence}
+use Rattle.master.proofs.Sequence.{OfBytes, AllHarmless, harmless-unset, words-make-sequence}
 use Rattle.master.proofs.Told.{all-told}
 use Rattle.master.proofs.Emits.{Does, after, AllPossible, Emits, emits-sound}
 use Rattle.master.proofs.Issue.{read-issues, write-issues, operations-issue}
+use Rattle.master.proofs.Accesses.{every-access-legal}
+use Rattle.master.proofs.Lent.{arguments, program-is, operations-are, small-operations}
 
 -- the level premise, place by place
 
@@ -62,7 +67,7 @@ all-possible (Marked x ∷ log) i t h = all-possible log i t (λ before after u 
 
 -- an accepted outcome set the target once, to a 7-bit address, and wrote these words
 abbrev Issued : ℕ → List ℕ → Outcome (Unit {0}) Reply → Type 0
-Issued a words o = o .answer ≡ Answered Accepted → AllPossible 0 0 (o .log)
+Issued a words o = number (o .answer) ≡ 0 → AllPossible 0 0 (o .log)
     → (written-to TAR (o .log) ≡ a ∷ []) × (written-to DATA-CMD (o .log) ≡ words) × (address-field a ≡ a)
 
 module _ (a n : ℕ) (p : Does) (rs b due : List ℕ) (issues : Emits p 0 0 due) where
@@ -71,10 +76,10 @@ module _ (a n : ℕ) (p : Does) (rs b due : List ℕ) (issues : Emits p 0 0 due)
       (λ _. P.writes ENABLE 0 (P.writes TAR (address-field a) (P.writes ENABLE 1 p))))
       room rs b)
   unfolding outcome written-to
-  set-up-if false small room good l = (cc, cc, cc)
-  set-up-if true small zero good l = (cc, cc, cc)
-  set-up-if true small (suc zero) good l = (cc, cc, cc)
-  set-up-if true small (suc (suc zero)) good l = (cc, cc, cc)
+  set-up-if false small room good l = absurd (omega arith)
+  set-up-if true small zero good l = absurd (omega arith)
+  set-up-if true small (suc zero) good l = absurd (omega arith)
+  set-up-if true small (suc (suc zero)) good l = absurd (omega arith)
   set-up-if true small (suc (suc (suc room))) good l =
       let s = emits-sound p room rs b 0 0 due issues good l in
       (rw (s .0, small refl), s .1, small refl)
@@ -124,44 +129,47 @@ harmless (write bs) = (λ a. refl, tt)
 harmless (write-read bs len) = (λ a. refl, (λ a. refl, tt))
 harmless (transaction os) = harmless-unset Idle os
 
--- written numbers are bytes, by the type of a run's arguments
-
-values-small : (bs : List Byte) → Bytes (values bs)
-values-small [] = tt
-values-small (b ∷ bs) = (b .small, values-small bs)
-
-operations-small : (os : List (Operation Byte)) → Each OfBytes (map plain-operation os)
-operations-small [] = tt
-operations-small (writes bs ∷ os) = (values-small bs, operations-small os)
-operations-small (reads len ∷ os) = (tt, operations-small os)
-
-of-bytes : (x : Transfer Byte) → Each OfBytes (operations-of (plain x))
-of-bytes (read len) = (tt, tt)
-of-bytes (write bs) = (values-small bs, tt)
-of-bytes (write-read bs len) = (values-small bs, (tt, tt))
-of-bytes (transaction os) = operations-small os
-
 -- the claims
 
+-- the log that a call left reads back as the entries of its outcome
+pub log-is : (m : Made) → log-of m ≡ left-by-call (m .call) (m .before) (m .readings) .log
+log-is m = read-back (m .left) (every-access-legal (m .call) (m .before) (m .readings) (buffer-in (m .call .lent)) tt)
+
 -- an accepted call was within its limits, and left what its transfer leaves
+
 within-accepted : (limits : Bool) (p : Driver Answer) (n room : ℕ) (rs b : List ℕ)
-    → after (within limits p n ends) room rs b .answer ≡ Answered Accepted
+    → number (after (within limits p n ends) room rs b .answer) ≡ 0
     → after (within limits p n ends) room rs b ≡ after (p n ends) room rs b
 unfolding outcome
 within-accepted true p n room rs b good = refl
-within-accepted false p n room rs b good = cc
+within-accepted false p n room rs b good = absurd (omega arith)
 
-pub sequence-of-run : SequenceOfRun
-sequence-of-run r h =
-    let x : Transfer ℕ = plain (r .arguments) in
-    let e = within-accepted (r .limits) (transfer (r .mode) (r .address) x) (suc (r .room)) (r .room) (r .readings)
-    (r .buffer) (h .succeeds) in
-    let g = rw e at h in
-    let possible = all-possible _ 0 0 (λ before after v e. omega (arith, g .levels before after v e)) in
-    let w = transfer-writes (r .mode) (suc (r .room)) (r .address) x (r .room) (r .readings) (r .buffer)
-    (of-bytes (r .arguments)) (h .at-least-one) (g .succeeds) possible in
-    rw (e, w .0, w .1, w .2) (words-make-sequence (r .address) (flagged x) (operations r) (h .at-least-one)
-    (h .none-empty) (of-bytes (r .arguments)) (harmless x))
+abbrev transferred : Made → Outcome (Unit {0}) Reply
+transferred m = after (transfer (m .call .mode) (address m) (arguments (m .call .lent)) (suc (length (m .before) / 2)) ends)
+    (length (m .before) / 2) (m .readings) (buffer-in (m .call .lent))
+
+accepted : (m : Made) → number (m .ran .reply) ≡ 0 → left-by-call (m .call) (m .before) (m .readings) ≡ transferred m
+accepted m good =
+    let p = program-is (m .call .mode) (address m) (m .call .lent) in
+    let g = rw (m .left .reply, p) at good in
+    rw p (within-accepted (within-limits (m .call .lent)) (transfer (m .call .mode) (address m) (arguments (m .call .lent)))
+    (suc (length (m .before) / 2)) (length (m .before) / 2) (m .readings) (buffer-in (m .call .lent)) g)
+
+call-issues : (m : Made) → Premises m
+    → Issued (address m) (all-words (flagged (arguments (m .call .lent))) (operations m)) (transferred m)
+call-issues m h =
+    rw (operations-are (m .call .lent)) (transfer-writes (m .call .mode) _ (address m) (arguments (m .call .lent)) _ _ _
+    (rw operations-are at (small-operations (m .call .lent) (m .small))) (rw operations-are at (h .at-least-one)))
+
+pub sequence-of-call : SequenceOfCall
+sequence-of-call m h =
+    let x : Transfer ℕ = arguments (m .call .lent) in
+    let e : left-by-call (m .call) (m .before) (m .readings) ≡ transferred m = accepted m (h .succeeds) in
+    let l : log-of m ≡ transferred m .log = log-is m ∙ ap (λ (o : Outcome (Unit {0}) Reply). o .log) e in
+    let possible = all-possible (log-of m) 0 0 (λ before after v q. omega (arith, h .levels before after v q)) in
+    let w = call-issues m h (rw (m .left .reply, e) at (h .succeeds)) (rw l at possible) in
+    rw (l, w .0, w .1, w .2) (words-make-sequence (address m) (flagged x) (operations m) (h .at-least-one)
+    (h .none-empty) (small-operations (m .call .lent) (m .small)) (rw (operations-are (m .call .lent)) (harmless x)))
 
 pub not-nil : {A : Type 0} (x : A) (xs : List A) → x ∷ xs ≢ []
 not-nil x xs e = let z : _≡_ {A = ℕ} 0 1 = cc in omega arith
@@ -178,14 +186,14 @@ unfolding joined
 some-joined [] some = some
 some-joined (o ∷ os) some = some-joined-to o (joined os)
 
-pub told-by-run : ToldByRun
-told-by-run r h = rw (sequence-of-run r h) (all-told (r .address) (joined (operations r)) (some-joined (operations r) (h .at-least-one)))
+pub told-by-call : ToldByCall
+told-by-call m h = rw (sequence-of-call m h) (all-told (address m) (joined (operations m)) (some-joined (operations m) (h .at-least-one)))
 
 pub same-sequence : SameSequence
-same-sequence r s h k = (
-  (λ e. let x = told-by-run r h in let y = told-by-run s k in (
+same-sequence m n h k = (
+  (λ e. let x = told-by-call m h in let y = told-by-call n k in (
     sym (x .0) ∙ (ap (λ ss. told ss .address) e ∙ y .0),
     sym (x .1) ∙ (ap (λ ss. told ss .operations) e ∙ y .1),
   )),
-  (λ e. sequence-of-run r h ∙ (ap₂ sequence (e .0) (e .1) ∙ sym (sequence-of-run s k))),
+  (λ e. sequence-of-call m h ∙ (ap₂ sequence (e .0) (e .1) ∙ sym (sequence-of-call n k))),
 )

@@ -1,5 +1,6 @@
 -- The words that a behaviour writes to DATA_CMD wherever it is accepted and the levels that it reads are possible.
 use Prim.Native.Nat.{ℕ, zero, suc, _+_, _≤_}
+use native.Mathlib.Omega.{arith}
 use mathlib.Core.Path.{_≡_, refl, ap₂, sym}
 use mathlib.Core.Bool.{Bool, true, false}
 use mathlib.Core.List.{List, [], _∷_}
@@ -7,10 +8,18 @@ use lib.Dec.{eqb, T}
 use lib.ListN.{set}
 use Rattle.regs.specs.declared.access.Entry.{Entry}
 use Rattle.regs.specs.declared.access.Entry.the-variants.{Read, Write, Marked}
+use Rattle.regs.specs.declared.answers.AbortReason.the-variants.{NoAcknowledge, ArbitrationLoss, TxNotEmpty, Other}
+use Rattle.regs.specs.declared.answers.Refusal.{Refusal}
+use Rattle.regs.specs.declared.answers.Refusal.the-variants.{FrequencyTooHigh, FrequencyZero, ClockOutOfRange}
+use Rattle.regs.specs.declared.answers.Refusal.the-variants.{ClockTooFast, ClockTooSlow, AddressOutOfRange}
+use Rattle.regs.specs.declared.answers.Refusal.the-variants.{InvalidReadBufferLength, InvalidWriteBufferLength, Abort}
+use Rattle.regs.specs.declared.answers.Refusal.the-variants.{TxLevelOutOfRange, InvalidResponseBufferLength, PartialWrite}
+use Rattle.regs.specs.declared.answers.Refusal.the-variants.{PartialGeneralCall, SlaveAddressZero, NoPlaceForPending, OverLimits}
 use Rattle.regs.specs.declared.answers.Answer.{Answer}
 use Rattle.regs.specs.declared.answers.Answer.the-variants.{Accepted, Heard, Responded, Refused}
 use Rattle.regs.specs.declared.answers.Reply.{Reply}
 use Rattle.regs.specs.declared.answers.Reply.the-variants.{Answered, LogFull, OutOfReadings}
+use Rattle.regs.specs.Answers.{number}
 use Rattle.regs.specs.Registers.{TAR, DATA-CMD, RXFLR}
 use Rattle.regs.specs.Fields.{level}
 use Rattle.regs.specs.Program.{if_then_else_, Behaviour, ends, reads, writes, marks, stores, asks, keeps, cut, Outcome, outcome}
@@ -71,23 +80,45 @@ due-written false w due words targets P q d e = rw q (e due d)
 due-written true w [] words targets P q d e = absurd d
 due-written true w (x ∷ due) words targets P q d e = rw q (e due (d .1) .0, ap₂ _∷_ (sym (d .0)) (e due (d .1) .1))
 
+-- a refusal has a number
+pub numbered : (refusal : Refusal) → number (Answered (Refused refusal)) ≡ 0 → ⊥
+numbered FrequencyTooHigh e = omega arith
+numbered FrequencyZero e = omega arith
+numbered ClockOutOfRange e = omega arith
+numbered ClockTooFast e = omega arith
+numbered ClockTooSlow e = omega arith
+numbered (AddressOutOfRange a) e = omega arith
+numbered InvalidReadBufferLength e = omega arith
+numbered InvalidWriteBufferLength e = omega arith
+numbered (Abort NoAcknowledge) e = omega arith
+numbered (Abort ArbitrationLoss) e = omega arith
+numbered (Abort (TxNotEmpty n)) e = omega arith
+numbered (Abort (Other w)) e = omega arith
+numbered (TxLevelOutOfRange level) e = omega arith
+numbered InvalidResponseBufferLength e = omega arith
+numbered (PartialWrite n) e = omega arith
+numbered (PartialGeneralCall n) e = omega arith
+numbered SlaveAddressZero e = omega arith
+numbered NoPlaceForPending e = omega arith
+numbered OverLimits e = omega arith
+
 pub emits-sound : (p : Does) (room : ℕ) (rs b : List ℕ) (issued taken : ℕ) (due : List ℕ) → Emits p issued taken due
-    → after p room rs b .answer ≡ Answered Accepted → AllPossible issued taken (after p room rs b .log) → Wrote (after p room rs b .log) due
+    → number (after p room rs b .answer) ≡ 0 → AllPossible issued taken (after p room rs b .log) → Wrote (after p room rs b .log) due
 unfolding outcome written-to
 emits-sound (ends Accepted) room rs b i t due e good l = (refl, sym e)
 emits-sound (ends (Heard command)) room rs b i t due e good l = absurd e
 emits-sound (ends (Responded status)) room rs b i t due e good l = absurd e
-emits-sound (ends (Refused refusal)) room rs b i t due e good l = (cc, cc)
-emits-sound (reads r f) zero rs b i t due e good l = (cc, cc)
-emits-sound (reads r f) (suc n) [] b i t due e good l = (cc, cc)
+emits-sound (ends (Refused refusal)) room rs b i t due e good l = absurd (numbered refusal good)
+emits-sound (reads r f) zero rs b i t due e good l = absurd (omega arith)
+emits-sound (reads r f) (suc n) [] b i t due e good l = absurd (omega arith)
 emits-sound (reads r f) (suc n) (v ∷ rs) b i t due e good l = emits-sound (f v) n rs b i (taken-by r t) due (e v (l .0)) good (l .1)
-emits-sound (writes r w p) zero rs b i t due e good l = (cc, cc)
+emits-sound (writes r w p) zero rs b i t due e good l = absurd (omega arith)
 emits-sound (writes r w p) (suc n) rs b i t due e good l =
     due-written (eqb r DATA-CMD) w due _ _ (λ rest. Emits p (issued-by r w i) t rest) (e .0) (e .1)
     (λ rest h. emits-sound p n rs b (issued-by r w i) t rest h good l)
-emits-sound (marks x p) zero rs b i t due e good l = (cc, cc)
+emits-sound (marks x p) zero rs b i t due e good l = absurd (omega arith)
 emits-sound (marks x p) (suc n) rs b i t due e good l = emits-sound p n rs b i t due e good l
 emits-sound (stores j x p) n rs b i t due e good l = emits-sound p n rs (set b j x) i t due e good l
 emits-sound (asks f) n rs b i t due e good l = emits-sound (f tt) n rs b i t due e good l
 emits-sound (keeps s p) n rs b i t due e good l = emits-sound p n rs b i t due e good l
-emits-sound cut n rs b i t due e good l = (cc, cc)
+emits-sound cut n rs b i t due e good l = absurd (omega arith)

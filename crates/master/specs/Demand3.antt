@@ -1,67 +1,50 @@
--- Demand 3: two master transfers that succeed make the same bus sequence exactly if their addresses and their
--- joined operations are the same.
+-- Demand 3: two master calls that succeed make the same bus sequence exactly if their addresses and their joined
+-- operations are the same.
 -- The bus sequence (crates/bus/specs/Bus.antt) begins on an idle bus with restarts enabled.
-use Prim.Native.Nat.{ℕ, zero, suc, _+_, _≤_, _<_}
+use Prim.Native.Nat.{ℕ, zero, suc, _+_, _*_, _≤_, _<_}
 use mathlib.Core.Path.{_≡_}
 use mathlib.Core.Logic.{_≢_, _↔_}
-use mathlib.Core.Bool.{Bool, _&&_}
-use mathlib.Core.List.{List, [], _∷_, _++_, map}
+use mathlib.Core.Bool.{_&&_}
+use mathlib.Core.List.{List, [], _∷_, _++_}
 use lib.Dec.{eqb}
+use lib.ListN.{take}
 use Rattle.regs.specs.declared.access.Entry.{Entry}
 use Rattle.regs.specs.declared.access.Entry.the-variants.{Read, Write, Marked}
-use Rattle.regs.specs.declared.answers.Answer.{Answer}
-use Rattle.regs.specs.declared.answers.Answer.the-variants.{Accepted}
-use Rattle.regs.specs.declared.answers.Reply.{Reply}
-use Rattle.regs.specs.declared.answers.Reply.the-variants.{Answered, OutOfReadings, LogFull}
+use Rattle.regs.specs.declared.access.Ran.{Ran}
+use Rattle.regs.specs.Answers.{number}
 use Rattle.regs.specs.Registers.{DATA-CMD, RXFLR}
 use Rattle.regs.specs.Fields.{cmd, level}
-use Rattle.regs.specs.Program.{if_then_else_, Outcome, outcome, behaviour}
-use Rattle.regs.specs.Log.{Each}
-use Rattle.bus.specs.Bus.{bus-sequence}
-use Rattle.master.specs.Driver.{Driver}
-use Rattle.master.specs.Operations.{Operation, writes, reads, Transfer, read, write, write-read, transaction, Mode, operations-of}
-use Rattle.master.specs.Transfer.{transfer, within}
+use Rattle.regs.specs.Program.{if_then_else_}
+use Rattle.regs.specs.Log.{Each, Leaves, decode}
+use Rattle.bus.specs.Bus.{Sign, bus-sequence}
+use Rattle.master.specs.Operations.{Operation, writes, reads}
 use Rattle.master.specs.Sequence.{joined, sequence, told}
+use Rattle.master.specs.Calls.{Call, bytes-in, operations-in, left-by-call}
 
--- a byte: what a call's `&[u8]` holds
-pub record Byte : Type 0 where
-  pub value : ℕ
-  pub small : value < 256
-
-abbrev pub values : List Byte → List ℕ
-values bytes = map (λ (b : Byte). b .value) bytes
-
-abbrev pub plain-operation : Operation Byte → Operation ℕ
-plain-operation (writes bytes) = writes (values bytes)
-plain-operation (reads len) = reads len
-
--- a transfer's arguments, its bytes as numbers
-abbrev pub plain : Transfer Byte → Transfer ℕ
-plain (read len) = read len
-plain (write bytes) = write (values bytes)
-plain (write-read bytes len) = write-read (values bytes) len
-plain (transaction os) = transaction (map plain-operation os)
-
--- A call of a master transfer with what it is run on: any of the eight forms, any operations, any readings,
--- any room in the log. `limits` is what number 20's test says of the call's arguments (specs/Transfer.antt).
-pub record Run : Type 0 where
-  pub mode : Mode
-  pub address : ℕ
-  pub arguments : Transfer Byte
-  pub limits : Bool
-  pub room : ℕ
+-- One of the eight calls as it was made: what was lent to it, the readings, the lent log before and after it, and
+-- what it returned. `left` is what the call's contract says of them, `small` what the type `&[u8]` does.
+pub record Made : Type 0 where
+  pub call : Call
   pub readings : List ℕ
-  pub buffer : List ℕ
+  pub before : List ℕ
+  pub after : List ℕ
+  pub ran : Ran
+  pub left : Leaves (left-by-call call before readings) before after ran
+  pub small : Each (λ b. b < 256) (bytes-in (call .lent))
 
-abbrev pub call : Run → Driver Answer
-call r = within (r .limits) (transfer (r .mode) (r .address) (plain (r .arguments)))
+abbrev pub address : Made → ℕ
+address m = m .call .address
 
--- what it leaves
-abbrev pub left-by : Run → Outcome (Unit {0}) Reply
-left-by r = outcome Answered LogFull OutOfReadings (behaviour (call r) (r .room)) (r .room) (r .readings) (r .buffer) tt
+abbrev pub operations : Made → List (Operation ℕ)
+operations m = operations-in (m .call .lent)
 
-abbrev pub operations : Run → List (Operation ℕ)
-operations r = operations-of (plain (r .arguments))
+-- the log that it left: as many entries as it returned, two words each; what stands after them is older
+abbrev pub log-of : Made → List Entry
+log-of m = decode (take (m .ran .entries * 2) (m .after))
+
+-- the bus sequence of that log, which `bus::bus_sequence` makes of the same words
+abbrev pub made-sequence : Made → List Sign
+made-sequence m = bus-sequence (log-of m)
 
 abbrev pub NotEmpty : Operation ℕ → Type 0
 NotEmpty (writes []) = ⊥
@@ -94,31 +77,29 @@ LevelsPossible log = (before after : List Entry) (v : ℕ)
     → log ≡ before ++ (Read RXFLR v ∷ after)
     → level v + taken-in before ≤ issued-in before
 
--- the premises, of what a transfer left and of its operations
-pub record Premises (left : Outcome (Unit {0}) Reply) (os : List (Operation ℕ)) : Type 0 where
-  pub succeeds : left .answer ≡ Answered Accepted
-  pub at-least-one : os ≢ []
-  pub none-empty : Each NotEmpty os
-  pub levels : LevelsPossible (left .log)
+-- the premises, of a call as it was made
+pub record Premises (m : Made) : Type 0 where
+  pub succeeds : number (m .ran .reply) ≡ 0
+  pub at-least-one : operations m ≢ []
+  pub none-empty : Each NotEmpty (operations m)
+  pub levels : LevelsPossible (log-of m)
 
--- under such premises two runs make the same sequence exactly if their addresses and their joined operations are the same
-abbrev pub SameIf : (Outcome (Unit {0}) Reply → List (Operation ℕ) → Type 0) → Type 0
-SameIf P = (r s : Run) → P (left-by r) (operations r) → P (left-by s) (operations s)
-    → (bus-sequence (left-by r .log) ≡ bus-sequence (left-by s .log))
-    ↔ ((r .address ≡ s .address) × (joined (operations r) ≡ joined (operations s)))
+-- under such premises two calls make the same sequence exactly if their addresses and their joined operations are the same
+abbrev pub SameIf : (Made → Type 0) → Type 0
+SameIf P = (m n : Made) → P m → P n
+    → (made-sequence m ≡ made-sequence n)
+    ↔ ((address m ≡ address n) × (joined (operations m) ≡ joined (operations n)))
 
 -- the demand
 abbrev pub SameSequence : Type 0
 SameSequence = SameIf Premises
 
 -- each sequence is the one that its own address and joined operations make alone
-abbrev pub SequenceOfRun : Type 0
-SequenceOfRun = (r : Run)
-    → Premises (left-by r) (operations r)
-    → bus-sequence (left-by r .log) ≡ sequence (r .address) (joined (operations r))
+abbrev pub SequenceOfCall : Type 0
+SequenceOfCall = (m : Made) → Premises m → made-sequence m ≡ sequence (address m) (joined (operations m))
 
 -- and it tells both
-abbrev pub ToldByRun : Type 0
-ToldByRun = (r : Run) → Premises (left-by r) (operations r)
-    → (told (bus-sequence (left-by r .log)) .address ≡ r .address)
-    × (told (bus-sequence (left-by r .log)) .operations ≡ joined (operations r))
+abbrev pub ToldByCall : Type 0
+ToldByCall = (m : Made) → Premises m
+    → (told (made-sequence m) .address ≡ address m)
+    × (told (made-sequence m) .operations ≡ joined (operations m))

@@ -4,5 +4,7 @@ pub mod Blocking
 pub mod Async
 pub mod Operations
 pub mod Transfer
+pub mod Calls
 pub mod Sequence
 pub mod Demand3
+pub mod Buffer

@@ -5,7 +5,7 @@ use mathlib.Core.List.{List}
 use lib.ListN.{length}
 use Rattle.regs.specs.Program.{Program, ends}
 use Rattle.regs.specs.Bounds.{Bounded}
-use Rattle.regs.specs.inner.Machine.{Machine}
+use Rattle.regs.specs.Steps.{Machine}
 use Rattle.regs.specs.declared.answers.Answer.{Answer}
 use Rattle.regs.proofs.Refine.{Agree}
 use Rattle.regs.proofs.Enough.{enough-from}

@@ -1,95 +1,132 @@
--- Every access that a program makes is legal: a law of the program, found along its text, that holds of every log it leaves.
---     LegalB t       every access of the behaviour t, whatever is read, is one that the table of registers allows
---     LegalP p       so is every access of the program p, whatever legal behaviour follows it
---     legal-log      so the log of an outcome is legal
--- A function f of a driver has a lemma, LegalP of its calls, whose proof is
+-- Every access that a program makes is legal, CON, TAR and SAR are written only while the block is disabled, and no
+-- answer is TxNotEmpty: laws of the program, found along its text, that hold of whatever it leaves.
+--     LegalB d t     so it is of the behaviour t, whatever is read, where d tells whether the block is known to be disabled
+--     LegalP p       so it is of the program p, whatever such behaviour follows it, where nothing is known of the block
+--     LegalWith R p  the same, where what p hands on meets R
+--     legal-call, disabled-call, proper-call    so the laws of specs/Legality.antt hold of p
+-- A function f of a driver has a lemma, LegalP or LegalWith of its calls, whose proof is
 -- `search` with the rules `legal` and the lemmas of the functions that f calls.
 use Prim.Native.Nat.{ℕ, zero, suc, _/_}
-use mathlib.Core.Bool.{Bool, true, false}
+use mathlib.Core.Bool.{Bool, true, false, _&&_}
 use mathlib.Core.List.{List, [], _∷_}
+use mathlib.Core.Path.{subst}
 use lib.Dec.{T}
 use lib.ListN.{set, length}
 use Rattle.regs.specs.Registers.{legal-read, legal-write}
 use Rattle.regs.specs.Program.{if_then_else_, Behaviour, ends, reads, writes, marks, stores, asks, keeps}
 use Rattle.regs.specs.Program.{cut, Program, when, turns, Turn, again, done, by-turn, rounds, Poll, pending}
-use Rattle.regs.specs.Program.{ready, polled, wait-on, _>>=_, outcome}
-use Rattle.regs.specs.Log.{Legal, Each, legal-mark, expected}
+use Rattle.regs.specs.Program.{ready, polled, wait-on, _>>=_, Outcome, outcome}
+use Rattle.regs.specs.Log.{Legal, Each, legal-mark}
+use Rattle.regs.specs.Legality.{LegalCall, disabled-after, may-write, WrittenDisabled, DisabledCall, NoTxNotEmpty}
+use Rattle.regs.specs.declared.access.Entry.the-variants.{Write, Marked}
 use Rattle.regs.specs.declared.answers.Answer.{Answer}
+use Rattle.regs.specs.declared.answers.Reply.{Reply}
 use Rattle.regs.specs.declared.answers.Reply.the-variants.{Answered, LogFull, OutOfReadings}
+use Rattle.regs.proofs.Table.{both-left, both-right}
+use Rattle.regs.proofs.Proper.{ProperAnswer, ProperReply, InPoll, InTurn}
 
-pub data LegalB {S A : Type 0} : Behaviour S A → Type 0 where
-  ends-legal : {a : A} → LegalB (ends a)
-  reads-legal : {r : ℕ} {f : ℕ → Behaviour S A} → T (legal-read r) → ((v : ℕ) → LegalB (f v)) → LegalB (reads r f)
-  writes-legal : {r v : ℕ} {t : Behaviour S A} → T (legal-write r) → LegalB t → LegalB (writes r v t)
-  marks-legal : {x : ℕ} {t : Behaviour S A} → T (legal-mark x) → LegalB t → LegalB (marks x t)
-  stores-legal : {i v : ℕ} {t : Behaviour S A} → LegalB t → LegalB (stores i v t)
-  asks-legal : {f : S → Behaviour S A} → ((s : S) → LegalB (f s)) → LegalB (asks f)
-  keeps-legal : {s : S} {t : Behaviour S A} → LegalB t → LegalB (keeps s t)
-  cut-legal : LegalB cut
+pub data LegalB {S : Type 0} : Bool → Behaviour S Answer → Type 0 where
+  ends-legal : {d : Bool} {a : Answer} → ProperAnswer a → LegalB d (ends a)
+  reads-legal : {d : Bool} {r : ℕ} {f : ℕ → Behaviour S Answer} → T (legal-read r) → ((v : ℕ) → LegalB d (f v)) → LegalB d (reads r f)
+  writes-legal : {d : Bool} {r v : ℕ} {t : Behaviour S Answer} → T (legal-write r && may-write d r)
+      → LegalB (disabled-after d (Write r v)) t → LegalB d (writes r v t)
+  marks-legal : {d : Bool} {x : ℕ} {t : Behaviour S Answer} → T (legal-mark x)
+      → LegalB (disabled-after d (Marked x)) t → LegalB d (marks x t)
+  stores-legal : {d : Bool} {i v : ℕ} {t : Behaviour S Answer} → LegalB d t → LegalB d (stores i v t)
+  asks-legal : {d : Bool} {f : S → Behaviour S Answer} → ((s : S) → LegalB d (f s)) → LegalB d (asks f)
+  keeps-legal : {d : Bool} {s : S} {t : Behaviour S Answer} → LegalB d t → LegalB d (keeps s t)
+  cut-legal : {d : Bool} → LegalB d cut
 
-abbrev pub LegalP : {S A B : Type 0} → Program S A B → Type 0
-LegalP {S} {A} {B} p = (n : ℕ) (k : B → Behaviour S A) → ((b : B) → LegalB (k b)) → LegalB (p n k)
+abbrev pub LegalP : {S B : Type 0} → Program S Answer B → Type 0
+LegalP {S} {B} p = (n : ℕ) (k : B → Behaviour S Answer) → ((b : B) → LegalB false (k b)) → LegalB false (p n k)
 
-pub if-legal : {S A : Type 0} {t u : Behaviour S A} (q : Bool) → LegalB t → LegalB u → LegalB (if q then t else u)
+abbrev pub LegalWith : {S B : Type 0} → (B → Type 0) → Program S Answer B → Type 0
+LegalWith {S} {B} R p = (n : ℕ) (k : B → Behaviour S Answer) → ((b : B) → R b → LegalB false (k b)) → LegalB false (p n k)
+
+pub if-legal : {S : Type 0} {d : Bool} {t u : Behaviour S Answer} (q : Bool) → LegalB d t → LegalB d u → LegalB d (if q then t else u)
 if-legal true l r = l
 if-legal false l r = r
 
 -- of programs
-pub if-program : {S A : Type 0} (B : Type 0) (p p′ : Program S A B) (n : ℕ) (k : B → Behaviour S A) (q : Bool)
-    → LegalB (p n k)
-    → LegalB (p′ n k)
-    → LegalB ((if q then p else p′) n k)
+pub if-program : {S : Type 0} {d : Bool} (B : Type 0) (p p′ : Program S Answer B) (n : ℕ) (k : B → Behaviour S Answer) (q : Bool)
+    → LegalB d (p n k)
+    → LegalB d (p′ n k)
+    → LegalB d ((if q then p else p′) n k)
 if-program B p p′ n k true l r = l
 if-program B p p′ n k false l r = r
 
-pub when-legal : {S A : Type 0} (p : Program S A (Unit {0})) (n : ℕ) (k : Unit {0} → Behaviour S A) (q : Bool)
-    → LegalB (p n k)
-    → LegalB (k tt)
-    → LegalB (when q p n k)
+pub when-legal : {S : Type 0} {d : Bool} (p : Program S Answer (Unit {0})) (n : ℕ) (k : Unit {0} → Behaviour S Answer) (q : Bool)
+    → LegalB d (p n k)
+    → LegalB d (k tt)
+    → LegalB d (when q p n k)
 when-legal p n k true l r = l
 when-legal p n k false l r = r
 
 -- `while`
-pub turns-legal : {S A : Type 0} (left n r : ℕ) (more : ℕ → Bool) (body : Program S A (Unit {0}))
-    (k : ℕ → Behaviour S A)
+pub turns-legal : {S : Type 0} (left n r : ℕ) (more : ℕ → Bool) (body : Program S Answer (Unit {0}))
+    (k : ℕ → Behaviour S Answer)
     → T (legal-read r)
     → LegalP body
-    → ((v : ℕ) → LegalB (k v))
-    → LegalB (turns left n r more body k)
+    → ((v : ℕ) → LegalB false (k v))
+    → LegalB false (turns left n r more body k)
 unfolding turns
 turns-legal zero n r more body k h b o = cut-legal
 turns-legal (suc left) n r more body k h b o =
     reads-legal h (λ v. if-legal (more v) (b n _ (λ _. turns-legal left n r more body k h b o)) (o v))
 
-pub by-turn-legal : {S A X B : Type 0} {t : X → Behaviour S A} {k : B → Behaviour S A}
-    → ((x : X) → LegalB (t x))
-    → ((b : B) → LegalB (k b))
+pub by-turn-legal : {S X B : Type 0} {t : X → Behaviour S Answer} {k : B → Behaviour S Answer}
+    → ((x : X) → LegalB false (t x))
+    → ((b : B) → LegalB false (k b))
     → (w : Turn X B)
-    → LegalB (by-turn w t k)
+    → LegalB false (by-turn w t k)
 by-turn-legal l o (again x) = l x
 by-turn-legal l o (done b) = o b
 
 -- `loop`
-pub rounds-legal : {S A : Type 0} (X B : Type 0) (left n : ℕ) (body : X → Program S A (Turn X B)) (x : X)
-    (k : B → Behaviour S A)
+pub rounds-legal : {S : Type 0} (X B : Type 0) (left n : ℕ) (body : X → Program S Answer (Turn X B)) (x : X)
+    (k : B → Behaviour S Answer)
     → ((y : X) → LegalP (body y))
-    → ((b : B) → LegalB (k b))
-    → LegalB (rounds left n body x k)
+    → ((b : B) → LegalB false (k b))
+    → LegalB false (rounds left n body x k)
 unfolding rounds
 rounds-legal X B zero n body x k b o = cut-legal
 rounds-legal X B (suc left) n body x k b o = b x n _ (by-turn-legal (λ y. rounds-legal X B left n body y k b o) o)
 
-pub polled-legal : {S A X B : Type 0} (g : Program S A (Unit {0})) → LegalP g → (y : Poll X B) → LegalP (polled g y)
-polled-legal g l (pending x) n k h = l n _ (λ _. marks-legal tt (h (again x)))
-polled-legal g l (ready b) n k h = h (done b)
+-- with what the last turn hands on
+pub by-turn-with : {S X B : Type 0} {t : X → Behaviour S Answer} {k : B → Behaviour S Answer} (R : B → Type 0)
+    → ((x : X) → LegalB false (t x))
+    → ((b : B) → R b → LegalB false (k b))
+    → (w : Turn X B)
+    → InTurn R w
+    → LegalB false (by-turn w t k)
+by-turn-with R l o (again x) h = l x
+by-turn-with R l o (done b) h = o b h
 
-pub wait-on-legal : {S A : Type 0} (X B : Type 0) (x : X) (f : X → Program S A (Poll X B))
-    (g : Program S A (Unit {0}))
-    → ((y : X) → LegalP (f y))
+pub rounds-with : {S : Type 0} (X B : Type 0) (R : B → Type 0) (left n : ℕ) (body : X → Program S Answer (Turn X B)) (x : X)
+    (k : B → Behaviour S Answer)
+    → ((y : X) → LegalWith (InTurn R) (body y))
+    → ((b : B) → R b → LegalB false (k b))
+    → LegalB false (rounds left n body x k)
+unfolding rounds
+rounds-with X B R zero n body x k b o = cut-legal
+rounds-with X B R (suc left) n body x k b o = b x n _ (by-turn-with R (λ y. rounds-with X B R left n body y k b o) o)
+
+pub polled-with : {S X B : Type 0} (R : B → Type 0) (g : Program S Answer (Unit {0}))
     → LegalP g
-    → LegalP (wait-on x f g)
-wait-on-legal X B x f g lf lg n k h =
-    rounds-legal X B n n (λ y. f y >>= polled g) x k (λ y m j l. lf y m _ (λ w. polled-legal g lg w m j l)) h
+    → (y : Poll X B)
+    → InPoll R y
+    → LegalWith (InTurn R) (polled g y)
+polled-with R g l (pending x) c n k h = l n _ (λ _. marks-legal tt (h (again x) tt))
+polled-with R g l (ready b) c n k h = h (done b) c
+
+-- `wait_on`
+pub wait-on-with : {S : Type 0} (X B : Type 0) (R : B → Type 0) (x : X) (f : X → Program S Answer (Poll X B))
+    (g : Program S Answer (Unit {0}))
+    → ((y : X) → LegalWith (InPoll R) (f y))
+    → LegalP g
+    → LegalWith R (wait-on x f g)
+wait-on-with X B R x f g lf lg n k h =
+    rounds-with X B R n n (λ y. f y >>= polled g) x k (λ y m j l. lf y m _ (λ w c. polled-with R g lg w c m j l)) h
 
 -- what a driver's lemmas are found with
 pub ruleset legal = (
@@ -106,32 +143,58 @@ pub ruleset legal = (
   turns-legal,
   by-turn-legal,
   rounds-legal,
-  polled-legal,
 )
 
-module _ {S A R : Type 0} (told : A → R) (full dry : R) where
-  pub legal-log : {t : Behaviour S A}
-      → LegalB t
+module _ {S : Type 0} where
+  abbrev left-by : Behaviour S Answer → ℕ → List ℕ → List ℕ → S → Outcome S Reply
+  left-by = outcome Answered LogFull OutOfReadings
+
+  legal-log : {d : Bool} {t : Behaviour S Answer}
+      → LegalB d t
       → (room : ℕ) (rs b : List ℕ) (s : S)
-      → Each Legal (outcome told full dry t room rs b s .log)
+      → Each Legal (left-by t room rs b s .log) × WrittenDisabled d (left-by t room rs b s .log)
   unfolding outcome
-  legal-log ends-legal room rs b s = tt
-  legal-log (reads-legal h l) zero rs b s = tt
-  legal-log (reads-legal h l) (suc room) [] b s = tt
-  legal-log (reads-legal h l) (suc room) (v ∷ rs) b s = (h, legal-log (l v) room rs b s)
-  legal-log (writes-legal h l) zero rs b s = tt
-  legal-log (writes-legal h l) (suc room) rs b s = (h, legal-log l room rs b s)
-  legal-log (marks-legal h l) zero rs b s = tt
-  legal-log (marks-legal h l) (suc room) rs b s = (h, legal-log l room rs b s)
+  legal-log (ends-legal h) room rs b s = (tt, tt)
+  legal-log (reads-legal h l) zero rs b s = (tt, tt)
+  legal-log (reads-legal h l) (suc room) [] b s = (tt, tt)
+  legal-log (reads-legal h l) (suc room) (v ∷ rs) b s = let rest = legal-log (l v) room rs b s in ((h, rest .0), (tt, rest .1))
+  legal-log (writes-legal h l) zero rs b s = (tt, tt)
+  legal-log (writes-legal {d = d} {r = r} h l) (suc room) rs b s =
+      let rest = legal-log l room rs b s in
+      ((both-left (legal-write r) (may-write d r) h, rest .0), (both-right (legal-write r) (may-write d r) h, rest .1))
+  legal-log (marks-legal h l) zero rs b s = (tt, tt)
+  legal-log (marks-legal h l) (suc room) rs b s = let rest = legal-log l room rs b s in ((h, rest .0), (tt, rest .1))
   legal-log (stores-legal {i = i} {v = v} l) room rs b s = legal-log l room rs (set b i v) s
   legal-log (asks-legal l) room rs b s = legal-log (l s) room rs b s
   legal-log (keeps-legal {s = s′} l) room rs b s = legal-log l room rs b s′
-  legal-log cut-legal room rs b s = tt
+  legal-log cut-legal room rs b s = (tt, tt)
+
+  proper-left : {d : Bool} {t : Behaviour S Answer}
+      → LegalB d t
+      → (room : ℕ) (rs b : List ℕ) (s : S)
+      → ProperReply (left-by t room rs b s .answer)
+  unfolding outcome
+  proper-left (ends-legal h) room rs b s = h
+  proper-left (reads-legal h l) zero rs b s = tt
+  proper-left (reads-legal h l) (suc room) [] b s = tt
+  proper-left (reads-legal h l) (suc room) (v ∷ rs) b s = proper-left (l v) room rs b s
+  proper-left (writes-legal h l) zero rs b s = tt
+  proper-left (writes-legal h l) (suc room) rs b s = proper-left l room rs b s
+  proper-left (marks-legal h l) zero rs b s = tt
+  proper-left (marks-legal h l) (suc room) rs b s = proper-left l room rs b s
+  proper-left (stores-legal {i = i} {v = v} l) room rs b s = proper-left l room rs (set b i v) s
+  proper-left (asks-legal l) room rs b s = proper-left (l s) room rs b s
+  proper-left (keeps-legal {s = s′} l) room rs b s = proper-left l room rs b s′
+  proper-left cut-legal room rs b s = tt
 
 -- of a whole program, as the contract of a call has it
-pub legal-expected : {S : Type 0} (p : Program S Answer Answer)
-    → LegalP p
-    → (log readings buffer : List ℕ) (s : S)
-    → Each Legal (expected p log readings buffer s .log)
-legal-expected p l log readings buffer s =
-    legal-log Answered LogFull OutOfReadings (l _ ends (λ a. ends-legal)) (length log / 2) readings buffer s
+module _ {S : Type 0} (p : Program S Answer Answer) (l : LegalWith ProperAnswer p) where
+  pub legal-call : LegalCall p
+  legal-call log readings buffer s = legal-log (l _ ends (λ a h. ends-legal h)) (length log / 2) readings buffer s .0
+
+  pub disabled-call : DisabledCall p
+  disabled-call log readings buffer s = legal-log (l _ ends (λ a h. ends-legal h)) (length log / 2) readings buffer s .1
+
+  pub proper-call : NoTxNotEmpty p
+  proper-call log readings buffer s n e =
+      subst ProperReply e (proper-left (l _ ends (λ a h. ends-legal h)) (length log / 2) readings buffer s)

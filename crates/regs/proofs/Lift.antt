@@ -6,7 +6,7 @@ use mathlib.Core.List.{List}
 use mathlib.Core.Path.{_≡_, _∙_}
 use lib.ListN.{set}
 use Rattle.regs.specs.Program.{Behaviour, ends, reads, writes, marks, stores, asks, keeps, cut}
-use Rattle.regs.specs.inner.Machine.{Machine, stored-in}
+use Rattle.regs.specs.Steps.{Machine, stored-in}
 use Rattle.regs.specs.declared.answers.Answer.{Answer}
 use Rattle.regs.specs.declared.access.Next.{Next}
 use Rattle.regs.specs.declared.access.Store.{Store}

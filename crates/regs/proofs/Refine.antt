@@ -18,7 +18,8 @@ use Rattle.regs.specs.Program.{if_then_else_, Behaviour, ends, reads, wr
 use Rattle.regs.specs.Program.{cut, Program, behaviour, turns, Turn, by-turn, rounds, Outcome, outcome, just}
 use Rattle.regs.specs.Program.{logged}
 use Rattle.regs.specs.Log.{encode, reads-in, Leaves, LeavesBuffer, LeavesState, LeavesAll, expected}
-use Rattle.regs.specs.inner.Machine.{Machine, stored-in, taken, by-performed, Final, final, entered, ran}
+use Rattle.regs.specs.inner.Machine.{taken, by-performed, Final, final, entered, ran}
+use Rattle.regs.specs.Steps.{Machine, stored-in}
 use Rattle.regs.specs.declared.answers.Answer.{Answer}
 use Rattle.regs.specs.declared.answers.Reply.{Reply}
 use Rattle.regs.specs.declared.answers.Reply.the-variants.{Answered, LogFull, OutOfReadings}

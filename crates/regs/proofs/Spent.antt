@@ -6,7 +6,7 @@ use mathlib.Core.Path.{_≡_, refl, ap}
 use lib.ListN.{length, set}
 use Rattle.regs.specs.Program.{Behaviour, ends, reads, writes, marks, stores, asks, keeps, cut, outcome}
 use Rattle.regs.specs.Log.{reads-in}
-use Rattle.regs.specs.inner.Machine.{Machine, stored-in}
+use Rattle.regs.specs.Steps.{Machine, stored-in}
 use Rattle.regs.specs.declared.answers.Answer.{Answer}
 use Rattle.regs.specs.declared.answers.Reply.the-variants.{Answered, LogFull, OutOfReadings}
 use Rattle.regs.proofs.Refine.{Steps}

@@ -4,7 +4,8 @@ use native.Mathlib.Omega.{arith}
 use mathlib.Core.List.{List}
 use mathlib.Core.Path.{_≡_}
 use borrow.Author.Tests.{lt-ltb, le-ltb}
-use Rattle.regs.specs.inner.Machine.{Machine, taken, performed, at-full, head-of, value-of, entered, stored-in, final, ran}
+use Rattle.regs.specs.inner.Machine.{taken, performed, at-full, head-of, value-of, entered, final, ran}
+use Rattle.regs.specs.Steps.{Machine, stored-in}
 use Rattle.regs.specs.declared.answers.Reply.{Reply}
 use Rattle.regs.specs.declared.access.Performed.the-variants.{Did, Stopped}
 

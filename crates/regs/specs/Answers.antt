@@ -19,7 +19,7 @@ use Rattle.regs.specs.declared.answers.Answer.the-variants.{Accepted, He
 use Rattle.regs.specs.declared.answers.Reply.{Reply}
 use Rattle.regs.specs.declared.answers.Reply.the-variants.{Answered, OutOfReadings, LogFull}
 
--- TxNotEmpty is a response's LeftoverBytes, and no call answers it as a refusal
+-- TxNotEmpty is a response's LeftoverBytes, and no call answers it as a refusal (`NoTxNotEmpty` of Legality.antt)
 abbrev pub abort-number : AbortReason → ℕ
 abort-number NoAcknowledge = 9
 abort-number ArbitrationLoss = 10

@@ -5,4 +5,7 @@ pub mod Program
 pub mod Answers
 pub mod Log
 pub mod Bounds
+pub mod Steps
+pub mod Left
+pub mod Legality
 pub mod inner

@@ -9,7 +9,7 @@ ghost use lib.Dec.{ltb};
 ghost use lib.ListN.{length};
 ghost use Rattle.regs.specs.Log.{entry};
 ghost use Rattle.regs.specs.inner.Machine.{head-of, value-of, taken, at-full, performed, log-after};
-ghost use Rattle.regs.specs.inner.Machine.{stored-in};
+ghost use Rattle.regs.specs.Steps.{stored-in};
 
 // What a machine does next: read a register, write it, make a mark, or nothing more.
 pub enum Next {

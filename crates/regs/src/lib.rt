@@ -37,13 +37,6 @@ pub const OFFSETS: [u8; 25] = [
     0xA8,
 ];
 
-// The offset in a row of the table, 255 where there is no such row.
-pub fn offset(row: usize) -> u8
-    ensures { λ r. ⌜ r ≡ getD offsets row 255 ⌝ }
-{
-    if row < 25 { OFFSETS[row] } else { 255 }
-}
-
 pub const CON: u8 = OFFSETS[0];
 
 pub const TAR: u8 = OFFSETS[1];
@@ -93,6 +86,44 @@ pub const ACK_GENERAL_CALL: u8 = OFFSETS[22];
 pub const FS_SPKLEN: u8 = OFFSETS[23];
 
 pub const CLR_RESTART_DET: u8 = OFFSETS[24];
+
+// The names in the table's order.
+const NAMED: [u8; 25] = [
+    CON,
+    TAR,
+    SAR,
+    DATA_CMD,
+    FS_SCL_HCNT,
+    FS_SCL_LCNT,
+    INTR_MASK,
+    RAW_INTR_STAT,
+    RX_TL,
+    TX_TL,
+    CLR_INTR,
+    CLR_RD_REQ,
+    CLR_TX_ABRT,
+    CLR_RX_DONE,
+    CLR_STOP_DET,
+    CLR_GEN_CALL,
+    ENABLE,
+    STATUS,
+    TXFLR,
+    RXFLR,
+    SDA_HOLD,
+    TX_ABRT_SOURCE,
+    ACK_GENERAL_CALL,
+    FS_SPKLEN,
+    CLR_RESTART_DET,
+];
+
+// The register named in a row of the table, 255 where there is no such row. Constants have no
+// contract: this function's holds every name, and so every row of `OFFSETS`, to the table of
+// the definitions. No driver needs to call it.
+pub fn offset(row: usize) -> u8
+    ensures { λ r. ⌜ r ≡ getD offsets row 255 ⌝ }
+{
+    if row < 25 { NAMED[row] } else { 255 }
+}
 
 // The marks: a poll that is not done, and a reset of the block.
 pub const PENDING: u8 = 0;

@@ -5,7 +5,8 @@ use mathlib.Core.List.{List}
 use mathlib.Core.Path.{_≡_, refl, sym, ap, _∙_}
 use lib.ListN.{length, length-set, getD}
 use borrow.Author.Tests.{lt-ltb}
-use Rattle.regs.specs.inner.Machine.{Machine, performed, log-after, stored-in, entered, Final, final, ran}
+use Rattle.regs.specs.inner.Machine.{performed, log-after, entered, Final, final, ran}
+use Rattle.regs.specs.Steps.{Machine, stored-in}
 use Rattle.regs.specs.declared.answers.Reply.{Reply}
 use Rattle.regs.specs.declared.access.Next.{Next}
 use Rattle.regs.specs.declared.access.Next.the-variants.{Read, Write, Mark}

@@ -1,2 +1,3 @@
--- What the proofs of the functions cite.
-pub mod Fine
+-- What the proofs of the functions cite, and the claim over them.
+pub mod Moving
+pub mod EveryRead

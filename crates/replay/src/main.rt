@@ -1,9 +1,11 @@
-// Replays calls: frames on standard input, answers on standard output. What is written is
-// what Session says of the input, by the contracts of `replay_feed::feed` and
-// `replay_feed::finish` and the claim `every-split` over them; here bytes are only moved.
+// Replays calls: frames on standard input, answers on standard output. What is handed to be
+// written is what Session says of the input (`every-read`), by the contracts of
+// `input::read_all` and `input::at_end`; here bytes are only moved. Where the input could not be
+// read to its end, or an answer not be written, standard error says so.
 mod input; // standard input, read to its end
 
 use libc::STDOUT_FILENO;
+use text_stdin::report;
 
 fn main() {
     let mut chunk = io::large_buffer();
@@ -15,7 +17,7 @@ fn main() {
     let mut buffer = [0u8; 4096];
     let mut log = [0u32; 16384];
     let mut out = [0u8; 262144];
-    let last = input::read_all(
+    let r = input::read_all(
         &mut chunk,
         &mut text,
         &mut kinds,
@@ -26,7 +28,10 @@ fn main() {
         &mut log,
         &mut out,
     );
-    let made = replay_feed::finish(
+    let last = r.state;
+    let end = r.end;
+    let made = input::at_end(
+        end,
         last,
         &text,
         &mut kinds,
@@ -37,5 +42,6 @@ fn main() {
         &mut log,
         &mut out,
     );
-    io::write_all(STDOUT_FILENO, &out[..made]);
+    let written = io::write_all(STDOUT_FILENO, &out[..made]);
+    report::stopped(b"replay", written && r.written, end);
 }

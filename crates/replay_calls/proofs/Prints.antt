@@ -7,12 +7,12 @@ use mathlib.Core.Path.{_≡_, refl, sym, ap}
 use lib.ListN.{length, take, length-append}
 use Rattle.regs.specs.Program.{Behaviour, ends, reads, writes, marks, stores, asks, keeps, cut, Program, Outcome, outcome, behaviour}
 use Rattle.regs.specs.Log.{decode, Leaves, expected}
+use Rattle.regs.specs.Legality.{LegalCall}
 use Rattle.regs.specs.declared.answers.Answer.{Answer}
 use Rattle.regs.specs.declared.answers.Reply.{Reply}
 use Rattle.regs.specs.declared.answers.Reply.the-variants.{Answered, LogFull, OutOfReadings}
 use Rattle.regs.specs.declared.access.Ran.{Ran}
 use Rattle.regs.proofs.Refine.{length-encode}
-use Rattle.regs.proofs.Legal.{LegalP, legal-expected}
 use Rattle.regs.proofs.RoundTrip.{read-back}
 use Rattle.text_hex.specs.Print.{log-text, reply-text}
 use Rattle.text_hex.specs.Appended.{Appended}
@@ -60,7 +60,7 @@ none-stored told full dry cut room rs s = refl
 abbrev text : {S : Type 0} → Bool → Outcome S Reply → List ℕ → List ℕ
 text buffered o b = log-text (o .log) ++ (shown buffered (o .answer) b ++ reply-text (o .answer))
 
-module _ {S : Type 0} (p : Program S Answer Answer) (legal : LegalP p) (log readings buffer : List ℕ) (s : S)
+module _ {S : Type 0} (p : Program S Answer Answer) (legal : LegalCall p) (log readings buffer : List ℕ) (s : S)
     (size : length log ≡ LOG-WORDS)
     {after : List ℕ} {r : Ran} (l : Leaves (expected p log readings buffer s) log after r) (kept : length after ≡ length log) where
   pub state-left : {z : S} → z ≡ expected p log readings buffer s .state → z ≡ replayed p readings buffer s .state
@@ -72,7 +72,7 @@ module _ {S : Type 0} (p : Program S Answer Answer) (legal : LegalP p) (log read
       (13 * r .entries + (3 + 2 * length b + 13)) d k
       → Appended a i (text buffered (expected p log readings buffer s) b) MOST-TEXT d k
   printed buffered b h x =
-      within MOST-TEXT (omega (arith, few l size kept)) (rw (read-back l (legal-expected p legal log readings buffer s), l .reply) at x)
+      within MOST-TEXT (omega (arith, few l size kept)) (rw (read-back l (legal log readings buffer s), l .reply) at x)
 
   -- with the buffer that the run left
   pub prints : {a d : List ℕ} {i k : ℕ} (buffered : Bool) (b : List ℕ) → b ≡ expected p log readings buffer s .buffer → length b ≤ 4096
@@ -83,7 +83,7 @@ module _ {S : Type 0} (p : Program S Answer Answer) (legal : LegalP p) (log read
   prints buffered b e h x = rw (← in-room p log readings buffer s size, ← e) (printed buffered b h x)
 
 -- with none
-module _ {S : Type 0} (p : Program S Answer Answer) (legal : LegalP p) (log readings : List ℕ) (s : S) (size : length log ≡ LOG-WORDS)
+module _ {S : Type 0} (p : Program S Answer Answer) (legal : LegalCall p) (log readings : List ℕ) (s : S) (size : length log ≡ LOG-WORDS)
     {after : List ℕ} {r : Ran} (l : Leaves (expected p log readings [] s) log after r) (kept : length after ≡ length log) where
   pub prints-none : {a d : List ℕ} {i k : ℕ} (buffered : Bool)
       → Appended a i (log-text (decode (take (r .entries * 2) after))

@@ -11,11 +11,11 @@ use Rattle.regs.specs.declared.answers.Reply.{Reply}
 use Rattle.regs.specs.declared.answers.Reply.the-variants.{Answered, LogFull, OutOfReadings}
 use Rattle.clock.specs.SetConfig.{set-config}
 use Rattle.master.specs.Driver.{Driver}
-use Rattle.master.specs.Operations.{Operation, writes, reads, Mode, blocking, async, READ, WRITE, MOST-BYTES, MOST-OPERATIONS}
+use Rattle.master.specs.Operations.{Operation, writes, reads, Mode, blocking, async, READ, WRITE}
 use Rattle.master.specs.Transfer.{read-call, write-call, write-read-call, transaction-call}
 use Rattle.slave.specs.I2cSlave.{reset-call, listen-call, respond-to-read-call, respond-till-stop-call, respond-and-fill-call}
 use Rattle.slave.specs.declared.SlaveState.{SlaveState}
-use Rattle.text_hex.specs.Print.{log-text, buffer-text, answer-text, reply-text}
+use Rattle.text_hex.specs.Print.{log-text, buffer-text, reply-text}
 use Rattle.replay_calls.specs.declared.Call.{Call}
 use Rattle.replay_calls.specs.declared.Call.the-variants.{Clock, Master, Reset, Listen, Respond, Fill, RespondAndFill}
 
@@ -48,10 +48,6 @@ listing (writes bs ∷ os) =
     listed (WRITE ∷ rest .kinds) (length bs ∷ rest .lengths) (bs ++ rest .bytes) (rest .room)
 listing (reads n ∷ os) = let rest = listing os in listed (READ ∷ rest .kinds) (n ∷ rest .lengths) (rest .bytes) (n + rest .room)
 
--- number 20, before everything else: more than 64 operations, or more than 4,096 bytes of one direction
-abbrev pub over : Listed → Bool
-over l = ltb MOST-OPERATIONS (length (l .kinds)) || (ltb MOST-BYTES (length (l .bytes)) || ltb MOST-BYTES (l .room))
-
 -- forms 0 to 3 block, and 4 to 7 are the async ones
 abbrev pub mode-of : ℕ → Mode
 mode-of form = if ltb form 4 then blocking else async
@@ -72,7 +68,7 @@ buffer-of form l = if eqb (form % 4) 1 then [] else replicate (l .room) 0
 abbrev pub keeping : SlaveState → Outcome (Unit {0}) Reply → Outcome SlaveState Reply
 keeping s o = record { answer = o .answer; log = o .log; buffer = o .buffer; state = s }
 
--- what a call within the limits leaves
+-- what a call leaves: its driver tests the limits of number 20
 abbrev pub outcome-of : Call → Listed → List ℕ → SlaveState → Outcome SlaveState Reply
 outcome-of (Clock frequency clk) l readings s = keeping s (replayed (set-config frequency clk) readings [] tt)
 outcome-of (Master form address) l readings s = keeping s (replayed (transfer-of form address l) readings (buffer-of form l) tt)
@@ -108,7 +104,7 @@ outcome-text buffered o = log-text (o .log) ++ (shown buffered (o .answer) (o .b
 
 -- what a call prints, and the slave's state after it
 abbrev pub call-text : Call → Listed → List ℕ → SlaveState → List ℕ
-call-text c l readings s = if over l then answer-text 20 0 else outcome-text (has-buffer c l) (outcome-of c l readings s)
+call-text c l readings s = outcome-text (has-buffer c l) (outcome-of c l readings s)
 
 abbrev pub slave-after : Call → Listed → List ℕ → SlaveState → SlaveState
-slave-after c l readings s = if over l then s else outcome-of c l readings s .state
+slave-after c l readings s = outcome-of c l readings s .state

@@ -28,7 +28,7 @@ pub fn reset(
         (replayed (reset-call address «general_call») (now (readings .entry)) [] s)
         (now (out .entry)) at (now (out .exit)) r ⌝ }
 {
-    let l = slave_run::reset_from(s, address, general_call, readings, log);
+    let l = i2c_slave::reset(s, address, general_call, readings, log);
     let ran = l.ran;
     let slave = l.state;
     let end = push_outcome(out, at, log, ran, false, b"");
@@ -53,7 +53,7 @@ pub fn listen(
         (now (out .entry)) at (now (out .exit)) r ⌝ }
 {
     clear(buffer);
-    let l = slave_run::listen_from(s, buffer, readings, log);
+    let l = i2c_slave::listen(s, buffer, readings, log);
     let ran = l.ran;
     let slave = l.state;
     let end = push_outcome(out, at, log, ran, true, buffer);
@@ -74,7 +74,7 @@ pub fn respond(
         (replayed (respond-to-read-call (now (bytes .entry))) (now (readings .entry)) [] s)
         (now (out .entry)) at (now (out .exit)) r ⌝ }
 {
-    let l = slave_run::respond_to_read_from(s, bytes, readings, log);
+    let l = i2c_slave::respond_to_read(s, bytes, readings, log);
     let ran = l.ran;
     let slave = l.state;
     let end = push_outcome(out, at, log, ran, false, b"");
@@ -95,7 +95,7 @@ pub fn fill(
         (replayed (respond-till-stop-call fill) (now (readings .entry)) [] s)
         (now (out .entry)) at (now (out .exit)) r ⌝ }
 {
-    let l = slave_run::respond_till_stop_from(s, fill, readings, log);
+    let l = i2c_slave::respond_till_stop(s, fill, readings, log);
     let ran = l.ran;
     let slave = l.state;
     let end = push_outcome(out, at, log, ran, false, b"");
@@ -117,7 +117,7 @@ pub fn respond_and_fill(
         (replayed (respond-and-fill-call (now (bytes .entry)) fill) (now (readings .entry)) [] s)
         (now (out .entry)) at (now (out .exit)) r ⌝ }
 {
-    let l = slave_run::respond_and_fill_from(s, bytes, fill, readings, log);
+    let l = i2c_slave::respond_and_fill(s, bytes, fill, readings, log);
     let ran = l.ran;
     let slave = l.state;
     let end = push_outcome(out, at, log, ran, false, b"");

@@ -13,8 +13,8 @@ use borrow.Author.Tests.{ltb-false}
 use Rattle.regs.proofs.Tests.{false-true}
 use Rattle.regs.specs.Program.{if_then_else_}
 use Rattle.master.specs.Operations.{writes, reads}
-use Rattle.replay_calls.specs.Calls.{listed, over}
-use Rattle.replay_session.specs.inner.Bounded.{large, add}
+use Rattle.replay_calls.specs.Calls.{listed}
+use Rattle.replay_session.specs.inner.Bounded.{over, large, add}
 use Rattle.replay_session.specs.inner.Enter.{Arrays, arrays, kept-of, Within, Lent, over-of, too-many, added-to}
 use Rattle.replay_session.specs.declared.Counts.{Counts}
 use Rattle.replay_session.proofs.Bound.{add-wide}

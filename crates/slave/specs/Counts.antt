@@ -1,5 +1,4 @@
--- What holds of every slave call, over the log, the buffer and the state that it leaves: its accesses are legal,
--- and lengths and counts are true.
+-- What holds of every slave call, over the log, the buffer and the state that it leaves: lengths and counts are true.
 use Prim.Native.Nat.{ℕ, _<_}
 use mathlib.Core.List.{List, [], _∷_, _++_}
 use mathlib.Core.Path.{_≡_}
@@ -7,63 +6,60 @@ use mathlib.Core.Logic.{_⊎_}
 use lib.Dec.{eqb}
 use lib.ListN.{length, take, drop, replicate}
 use Rattle.regs.specs.Registers.{DATA-CMD, TX-ABRT-SOURCE}
-use Rattle.regs.specs.Fields.{dat, tx-flush-cnt}
+use Rattle.regs.specs.Fields.{tx-flush-cnt}
+use Rattle.regs.specs.Left.{Stored}
 use Rattle.regs.specs.Program.{if_then_else_, Outcome}
-use Rattle.regs.specs.Log.{Each, Legal, expected}
+use Rattle.regs.specs.Log.{expected}
 use Rattle.regs.specs.declared.access.Entry.{Entry}
 use Rattle.regs.specs.declared.access.Entry.the-variants as E
 use Rattle.regs.specs.declared.answers.AbortReason.the-variants.{TxNotEmpty}
-use Rattle.regs.specs.declared.answers.Command.{Command}
 use Rattle.regs.specs.declared.answers.Command.the-variants.{GeneralCall, Read, WriteRead, Write}
 use Rattle.regs.specs.declared.answers.ReadStatus.the-variants.{Done, NeedMoreBytes, LeftoverBytes}
 use Rattle.regs.specs.declared.answers.Answer.{Answer}
-use Rattle.regs.specs.declared.answers.Answer.the-variants.{Heard, Responded}
+use Rattle.regs.specs.declared.answers.Answer.the-variants.{Heard, Responded, Refused}
+use Rattle.regs.specs.declared.answers.Refusal.the-variants.{PartialWrite, PartialGeneralCall, NoPlaceForPending, OverLimits}
 use Rattle.regs.specs.declared.answers.Reply.{Reply}
-use Rattle.regs.specs.declared.answers.Reply.the-variants.{Answered}
-use Rattle.slave.specs.I2cSlave.{Driver, FIFO-SIZE, abort-reason, listen-call, respond-to-read-call}
+use Rattle.regs.specs.declared.answers.Reply.the-variants.{Answered, OutOfReadings, LogFull}
+use Rattle.slave.specs.I2cSlave.{FIFO-SIZE, abort-reason, respond-to-read-call}
 use Rattle.slave.specs.I2cSlave.{respond-till-stop-call, respond-and-fill-call}
+use Rattle.slave.specs.Calls.{listens, left-by-call}
 use Rattle.slave.specs.declared.Pending.{Pending}
 use Rattle.slave.specs.declared.Pending.the-variants.{None, Byte}
 use Rattle.slave.specs.declared.SlaveState.{SlaveState}
 
--- every access that a call logs is one that the table of registers allows
-abbrev pub LegalAccesses : Driver Answer → Type 0
-LegalAccesses p = (log readings buffer : List ℕ) (me : SlaveState) → Each Legal (expected p log readings buffer me .log)
-
 -- ---- listen
-
--- the bytes that a log reads from DATA_CMD, in order
-abbrev pub bytes-read : List Entry → List ℕ
-bytes-read [] = []
-bytes-read (E.Read r v ∷ es) = if eqb r DATA-CMD then dat v ∷ bytes-read es else bytes-read es
-bytes-read (E.Write r v ∷ es) = bytes-read es
-bytes-read (E.Marked x ∷ es) = bytes-read es
 
 abbrev pub pending-bytes : Pending → List ℕ
 pending-bytes None = []
 pending-bytes (Byte b) = b ∷ []
 
--- the command says n bytes
-abbrev pub Says : ℕ → Command → Type 0
-Says n (GeneralCall m) = m ≡ n
-Says n Read = ⊥
-Says n (WriteRead m) = m ≡ n
-Says n (Write m) = m ≡ n
+-- the byte that the driver keeps, if any
+abbrev pub kept : SlaveState → List ℕ
+kept me = pending-bytes (me .«pending_byte»)
 
--- exactly n bytes are stored, from the buffer's front on: the pending byte first,
--- then the bytes read from DATA_CMD in order, but for one that is pending now
-pub record Stored (n : ℕ) (before : List ℕ) (me : SlaveState) (o : Outcome SlaveState Reply) : Type 0 where
-  pub within : n < length before
-  pub bytes : pending-bytes (me .«pending_byte») ++ bytes-read (o .log) ≡ take n (o .buffer) ++ pending-bytes (o .state .«pending_byte»)
-  pub others : drop n (o .buffer) ≡ drop n before
-  pub size : length (o .buffer) ≡ length before
+-- The answers of `listen`, and the number of bytes stored with each in a buffer of so many. Read counts none, though
+-- some may be stored (docs/DIFFERENCES.md). 18 and 19 count none either: `Stored` below says how many it is then.
+pub data Tells (size : ℕ) : Reply → ℕ → Type 0 where
+  general-call : {k : ℕ} → 0 < k → k < size → Tells size (Answered (Heard (GeneralCall k))) k
+  read : {k : ℕ} → k < size → Tells size (Answered (Heard Read)) k
+  write-read : {k : ℕ} → k < size → Tells size (Answered (Heard (WriteRead k))) k
+  write : {k : ℕ} → 0 < k → k < size → Tells size (Answered (Heard (Write k))) k
+  partial-write : Tells size (Answered (Refused (PartialWrite size))) size
+  partial-general-call : Tells size (Answered (Refused (PartialGeneralCall size))) size
+  no-place : Tells size (Answered (Refused NoPlaceForPending)) 0
+  over-limits : Tells size (Answered (Refused OverLimits)) 0
+  out-of-readings : {k : ℕ} → Tells size OutOfReadings k
+  log-full : {k : ℕ} → Tells size LogFull k
 
--- an accepted Write, WriteRead or GeneralCall of n has n bytes stored
-abbrev pub TrueLength : Type 0
-TrueLength =
-    (buffer log readings : List ℕ) (me : SlaveState) (n : ℕ) (command : Command) → Says n command
-    → expected (listen-call (length buffer)) log readings buffer me .answer ≡ Answered (Heard command)
-    → Stored n buffer me (expected (listen-call (length buffer)) log readings buffer me)
+-- Whatever `listen` answers: the kept byte, then the bytes read from DATA_CMD in order, are the first `count` bytes
+-- of the buffer and the byte kept then; the rest of the buffer is as it was; and the answer is one of those with that count.
+pub record Conserved (before : List ℕ) (me : SlaveState) (o : Outcome SlaveState Reply) : Type 0 where
+  pub count : ℕ
+  pub stored : Stored kept count before me o
+  pub told : Tells (length before) (o .answer) count
+
+abbrev pub ListenConserves : Type 0
+ListenConserves = (buffer log readings : List ℕ) (me : SlaveState) → Conserved buffer me (left-by-call (listens buffer) log readings me)
 
 -- ---- the responses
 

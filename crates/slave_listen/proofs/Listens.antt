@@ -11,7 +11,7 @@ use Rattle.regs.proofs.Tests.{by-test}
 use Rattle.regs.specs.Registers.{RX-TL, INTR-MASK}
 use Rattle.regs.specs.Fields.{set-field, dat, rd-req, stop-det, gen-call, restart-det, rfne, level}
 use Rattle.regs.specs.Program.{Behaviour, ends, writes, put, by-turn, polled, pending}
-use Rattle.regs.specs.inner.Machine.{Machine, stored-in}
+use Rattle.regs.specs.Steps.{Machine, stored-in}
 use Rattle.regs.specs.declared.answers.Answer.{Answer}
 use Rattle.regs.specs.declared.answers.Answer.the-variants.{Heard}
 use Rattle.regs.specs.declared.access.Next.the-variants as N

@@ -13,7 +13,7 @@ use Rattle.regs.proofs.Tests.{by-test}
 use Rattle.regs.specs.Registers.{INTR-MASK, DATA-CMD}
 use Rattle.regs.specs.Fields.{set-field, tx-empty, rd-req, tx-abrt, rx-done}
 use Rattle.regs.specs.Program.{Behaviour, ends, put, by-turn, polled, pending, wait-on, Result, ok, err}
-use Rattle.regs.specs.inner.Machine.{Machine}
+use Rattle.regs.specs.Steps.{Machine}
 use Rattle.regs.specs.declared.answers.AbortReason.{AbortReason}
 use Rattle.regs.specs.declared.answers.AbortReason.the-variants as A
 use Rattle.regs.specs.declared.answers.ReadStatus.{ReadStatus}

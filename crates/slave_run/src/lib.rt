@@ -1,18 +1,27 @@
-// The slave's machine run over a list of readings, and the calls with the
-// state by value. The calls that the state is lent to are in `i2c_slave`.
+// The slave's machine run over a list of readings, and any call by its request,
+// with the state by value. The call that the state is lent to is in `i2c_slave`.
 use regs::access::Performed;
 use regs::access::Ran;
 use slave::SlaveState;
 use slave_steps::Slave;
 ghost use mathlib.Core.Path.{_≡_};
-ghost use mathlib.Core.List.{[]};
 ghost use Prim.Native.Nat.{_/_};
 ghost use lib.ListN.{length};
 ghost use Rattle.regs.specs.inner.Machine.{final, ran};
-ghost use Rattle.regs.specs.Log.{LeavesState, LeavesAll, expected};
+ghost use Rattle.regs.specs.Log.{LeavesAll};
 ghost use Rattle.slave_steps.specs.inner.Machine.{machine};
-ghost use Rattle.slave.specs.I2cSlave.{reset-call, listen-call, respond-to-read-call, respond-till-stop-call};
-ghost use Rattle.slave.specs.I2cSlave.{respond-and-fill-call};
+ghost use Rattle.slave_run.specs.Requests.{left-by};
+ghost use Rattle.slave_run.specs.inner.Starts.{started};
+
+// The five calls: the address and whether general calls are heard, or the fill
+// byte. The bytes of a response and the buffer to listen into are lent beside it.
+pub enum Request {
+    Reset(u16, bool),
+    Listen,
+    RespondToRead,
+    RespondTillStop(u8),
+    RespondAndFill(u8),
+}
 
 // What a call by value leaves beside the log and the buffer.
 pub struct Left {
@@ -63,81 +72,33 @@ pub fn run(from: Slave, bytes: &[u8], readings: &[u32], log: &mut [u32], buffer:
     }
 }
 
-// `reset`, with the state by value.
-pub fn reset_from(
+// Where the machine starts, with so many bytes to send and a buffer so long.
+fn start(state: SlaveState, request: Request, bytes: usize, buffer: usize) -> Slave
+    ensures { λ r. ⌜ r ≡ started state request bytes buffer ⌝ }
+{
+    match request {
+        Request::Reset(address, general) => slave_steps::start_reset(state, address, general),
+        Request::Listen => slave_steps::start_listen(state, buffer),
+        Request::RespondToRead => slave_steps::start_respond_to_read(state, bytes),
+        Request::RespondTillStop(fill) => slave_steps::start_respond_till_stop(state, fill),
+        Request::RespondAndFill(fill) => slave_steps::start_respond_and_fill(state, bytes, fill),
+    }
+}
+
+// Any call, with the state by value.
+pub fn call_from(
     state: SlaveState,
-    address: u16,
-    general_call: bool,
+    request: Request,
+    bytes: &[u8],
+    buffer: &mut [u8],
     readings: &[u32],
     log: &mut [u32],
 ) -> Left
-    ensures { λ r. ⌜ LeavesState
-        (expected (reset-call address «general_call») (now (log .entry)) (now (readings .entry)) [] state)
-        (now (log .entry)) (now (log .exit)) (r .ran) (r .state) ⌝ }
-{
-    let s = slave_steps::start_reset(state, address, general_call);
-    let mut none = [0u8; 0];
-    run(s, b"", readings, log, &mut none)
-}
-
-// `listen`, with the state by value.
-pub fn listen_from(state: SlaveState, buffer: &mut [u8], readings: &[u32], log: &mut [u32]) -> Left
     ensures { λ r. ⌜ LeavesAll
-        (expected (listen-call (length (now (buffer .entry)))) (now (log .entry)) (now (readings .entry))
-        (now (buffer .entry)) state)
+        (left-by request (now (bytes .entry)) (now (buffer .entry)) (now (log .entry))
+        (now (readings .entry)) state)
         (now (log .entry)) (now (log .exit)) (now (buffer .exit)) (r .ran) (r .state) ⌝ }
 {
-    let s = slave_steps::start_listen(state, buffer.len());
-    run(s, b"", readings, log, buffer)
-}
-
-// `respond_to_read`, with the state by value: it stays as it is.
-pub fn respond_to_read_from(
-    state: SlaveState,
-    bytes: &[u8],
-    readings: &[u32],
-    log: &mut [u32],
-) -> Left
-    ensures { λ r. ⌜ LeavesState
-        (expected (respond-to-read-call (now (bytes .entry))) (now (log .entry)) (now (readings .entry)) []
-        state)
-        (now (log .entry)) (now (log .exit)) (r .ran) (r .state) ⌝ }
-{
-    let s = slave_steps::start_respond_to_read(state, bytes.len());
-    let mut none = [0u8; 0];
-    run(s, bytes, readings, log, &mut none)
-}
-
-// `respond_till_stop`, with the state by value.
-pub fn respond_till_stop_from(
-    state: SlaveState,
-    fill: u8,
-    readings: &[u32],
-    log: &mut [u32],
-) -> Left
-    ensures { λ r. ⌜ LeavesState
-        (expected (respond-till-stop-call fill) (now (log .entry)) (now (readings .entry)) [] state)
-        (now (log .entry)) (now (log .exit)) (r .ran) (r .state) ⌝ }
-{
-    let s = slave_steps::start_respond_till_stop(state, fill);
-    let mut none = [0u8; 0];
-    run(s, b"", readings, log, &mut none)
-}
-
-// `respond_and_fill`, with the state by value.
-pub fn respond_and_fill_from(
-    state: SlaveState,
-    bytes: &[u8],
-    fill: u8,
-    readings: &[u32],
-    log: &mut [u32],
-) -> Left
-    ensures { λ r. ⌜ LeavesState
-        (expected (respond-and-fill-call (now (bytes .entry)) fill) (now (log .entry)) (now (readings .entry))
-        [] state)
-        (now (log .entry)) (now (log .exit)) (r .ran) (r .state) ⌝ }
-{
-    let s = slave_steps::start_respond_and_fill(state, bytes.len(), fill);
-    let mut none = [0u8; 0];
-    run(s, bytes, readings, log, &mut none)
+    let s = start(state, request, bytes.len(), buffer.len());
+    run(s, bytes, readings, log, buffer)
 }

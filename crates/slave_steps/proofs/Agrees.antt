@@ -10,7 +10,7 @@ use lib.ListN.{length}
 use borrow.Author.Tests.{eqb-false}
 use Rattle.regs.proofs.Tests.{by-test}
 use Rattle.regs.specs.Program.{Behaviour, ends, _>>_, _>>=_, return, when, exit}
-use Rattle.regs.specs.inner.Machine.{Machine}
+use Rattle.regs.specs.Steps.{Machine}
 use Rattle.regs.specs.declared.answers.Answer.{Answer}
 use Rattle.regs.specs.declared.answers.Answer.the-variants.{Heard, Refused}
 use Rattle.regs.specs.declared.answers.Refusal.the-variants.{NoPlaceForPending}

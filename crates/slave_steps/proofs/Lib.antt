@@ -2,3 +2,4 @@
 pub mod Resets
 pub mod Agrees
 pub mod Bounds
+pub mod Stepped

@@ -6,7 +6,7 @@ use mathlib.Core.Path.{refl}
 use lib.Dec.{eqb}
 use Rattle.regs.proofs.Tests.{by-test}
 use Rattle.regs.specs.Program.{ends}
-use Rattle.regs.specs.inner.Machine.{Machine}
+use Rattle.regs.specs.Steps.{Machine}
 use Rattle.regs.proofs.Refine.{Agree, ends-agree, reads-agree, writes-agree, marks-agree, asks-agree, keeps-agree}
 use Rattle.slave.specs.I2cSlave.{reset, reset-call}
 use Rattle.slave_steps.specs.inner.Machine.{machine, start-reset}

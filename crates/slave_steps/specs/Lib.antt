@@ -1,2 +1,3 @@
--- The slave's machine.
+-- The slave's machine, and stepping it by hand.
+pub mod Steps
 pub mod inner

@@ -1,8 +1,8 @@
 // The picture of a log's bus sequence: the signs one after the other, and the whole.
 use svg_text::head::push_head;
 use svg_text::head::push_number;
-use svg_text::head::push_text;
 use svg_text::sign::push_word;
+use text_tables::push_text;
 ghost use Prim.Native.Nat.{_+_, _*_, _≤_};
 ghost use mathlib.Core.Path.{_≡_};
 ghost use lib.ListN.{length, take};

@@ -8,7 +8,7 @@ use Rattle.regs.specs.Log.{decode}
 use Rattle.bus.specs.Bus.{Sign, START, RESTART, STOP, address-byte, written, read-slot, bus-sequence}
 use Rattle.text_hex.specs.Text.{hex2}
 use Rattle.text_tables.specs.Decimal.{digits}
-use Rattle.svg_text.specs.Ascii.{ascii}
+use Rattle.text_tables.specs.Ascii.{ascii}
 use Rattle.svg_text.specs.Texts.{style-text, conditions-text, bytes-text, legend-text}
 
 -- a coordinate or a count

@@ -1,7 +1,7 @@
 -- The texts of the picture that are the same for every sequence.
 use Prim.Native.Nat.{ℕ}
 use mathlib.Core.List.{List, _++_}
-use Rattle.svg_text.specs.Ascii.{ascii}
+use Rattle.text_tables.specs.Ascii.{ascii}
 
 -- fills by kind: an address, a written byte, a byte to be read, a condition; bits that the words do not set are hatched
 unfoldable pub style-text : List ℕ

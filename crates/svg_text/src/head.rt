@@ -1,34 +1,19 @@
 // The head of a picture. Each function puts its text at
 // `at` of a lent buffer and returns where the text ends.
-use text_hex::print::push;
 use text_tables::decimal::push_digits;
+use text_tables::push_text;
 ghost use Prim.Native.Nat.{_+_, _≤_};
 ghost use lib.ListN.{length};
 ghost use Rattle.text_hex.specs.Appended.{Appended};
 ghost use Rattle.svg_text.specs.Texts.{style-text, conditions-text, bytes-text, legend-text};
 ghost use Rattle.svg_text.specs.Picture.{number-text, opening-text, head-text};
 
-// A whole text.
-pub fn push_text(out: &mut [u8], at: usize, text: &[u8]) -> usize
-    requires { ⌜ at + length (now text) ≤ length (now out) ⌝ }
-    ensures { λ r. ⌜ Appended (now (out .entry)) at (now (text .entry)) (length (now (text .entry)))
-        (now (out .exit)) r ⌝ }
-{
-    let mut end = at;
-    let mut i: usize = 0;
-    while i < text.len() {
-        end = push(out, end, text[i]);
-        i += 1;
-    }
-    end
-}
-
 // A coordinate or a count.
 pub fn push_number(out: &mut [u8], at: usize, n: u32) -> usize
     requires { ⌜ at + 6 ≤ length (now out) ⌝ }
     ensures { λ r. ⌜ Appended (now (out .entry)) at (number-text n) 6 (now (out .exit)) r ⌝ }
 {
-    push_digits(out, at, 6, n)
+    push_digits(out, at, 6, n as u64)
 }
 
 fn push_style(out: &mut [u8], at: usize) -> usize

@@ -1,9 +1,9 @@
 // A sign at x and y of the picture. Each function puts its text
 // at `at` of a lent buffer and returns where the text ends.
 use super::head::push_number;
-use super::head::push_text;
 use text_hex::print::push;
 use text_hex::print::push2;
+use text_tables::push_text;
 ghost use Prim.Native.Nat.{_+_, _/_, _%_, _≤_};
 ghost use mathlib.Core.Path.{_≡_};
 ghost use mathlib.Core.List.{[], _∷_, _++_};

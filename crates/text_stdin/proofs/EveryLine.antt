@@ -1,7 +1,8 @@
--- Calls of `next_line` one after the other hand out every line of the input, each cut at the buffer's end.
+-- Calls of `next_line` one after the other hand out every line of the input, each cut at the buffer's end. Where the
+-- input did not end but a read failed, those are the lines that LF ended.
 use Prim.Native.Nat.{ℕ, zero, suc, _<_, _≤_}
 use native.Mathlib.Omega.{arith}
-use mathlib.Core.Bool.{Bool, true, false, _||_, true≢false}
+use mathlib.Core.Bool.{Bool, true, false, _||_, _&&_, true≢false}
 use mathlib.Core.List.{List, [], _∷_, _++_, map, append-assoc, append-nil}
 use mathlib.Core.Path.{_≡_, refl, sym, ap, _∙_}
 use lib.Dec.{eqb, ltb}
@@ -9,23 +10,37 @@ use lib.ListN.{length, take}
 use lib.Seq.{length-take-le, take-nil}
 use borrow.Author.Tests.{ltb-true, ltb-false}
 use Rattle.text_hex.specs.Text.{LF, last-line, lines}
-use Rattle.text_stdin.specs.Handed.{before-lf, after-lf, has-lf, unread, HandedOut}
+use Rattle.text_stdin.specs.Reads.{is-open-at, is-ended-at, Reads, none, bytes, answered-0, failed}
+use Rattle.text_stdin.specs.Handed.{before-lf, after-lf, has-lf, unread, stands, is-line, HandedOut, last-by, lines-to}
 use Rattle.text_stdin.specs.declared.Source.{Source}
 use Rattle.text_stdin.specs.declared.Line.{Line}
-use Rattle.text_stdin.proofs.Lines.{lines-are}
+use Rattle.text_stdin.specs.declared.reads.End.{End}
+use Rattle.text_stdin.specs.declared.reads.End.the-variants.{Open, Ended, Failed, OutOfTurns}
+use Rattle.text_stdin.proofs.Lines.{lines-are, all-lines}
 
--- calls up to the first that finds no line: the lines' texts, and all the bytes that came
-pub data Calls (room : ℕ) : Source → List ℕ → List (List ℕ) → List ℕ → Type 0 where
+-- calls up to the first that finds no line: the lines' texts, all the bytes that came, and how the input stands then
+pub data Calls (room : ℕ) : Source → List ℕ → List (List ℕ) → List ℕ → End → Type 0 where
   ends : {s : Source} {chunk chunk′ line : List ℕ} {r : Line}
       → length line ≡ room
       → (h : HandedOut s chunk chunk′ line r)
       → r .some ≡ false
-      → Calls room s chunk [] (h .came)
-  goes : {s : Source} {chunk chunk′ line : List ℕ} {r : Line} {texts : List (List ℕ)} {rest : List ℕ}
+      → Calls room s chunk [] (h .came) (r .source .end)
+  goes : {s : Source} {chunk chunk′ line : List ℕ} {r : Line} {texts : List (List ℕ)} {rest : List ℕ} {e : End}
       → length line ≡ room
       → (h : HandedOut s chunk chunk′ line r)
       → r .some ≡ true
-      → Calls room (r .source) chunk′ texts rest → Calls room s chunk (take (r .held) line ∷ texts) (h .came ++ rest)
+      → Calls room (r .source) chunk′ texts rest e → Calls room s chunk (take (r .held) line ∷ texts) (h .came ++ rest) e
+
+-- ---- reads: none follows the end of the input
+
+never : {A : Type 0} → is-open-at Ended ≡ true → A
+never e = absurd (true≢false (sym e))
+
+shut : {from last : End} {n : ℕ} {came : List ℕ} → from ≡ Ended → Reads from n came last → (came ≡ []) × (last ≡ Ended)
+shut e none = (refl, e)
+shut e (bytes more r h) = never (ap is-open-at (sym (shut e r .1)))
+shut e (answered-0 r) = never (ap is-open-at (sym (shut e r .1)))
+shut e (failed r) = never (ap is-open-at (sym (shut e r .1)))
 
 -- ---- bytes with an LF, and more behind them
 
@@ -75,6 +90,23 @@ last-some : (n : ℕ) (x : List ℕ) → 0 < length (take n x) → map (take n) 
 last-some n [] l = absurd (omega (arith, ap (length {A = ℕ}) (take-nil n)))
 last-some n (c ∷ x) l = refl
 
+-- where there is no line, the input has ended behind an LF, or what came of a last line is none
+none-last : (e : End) (held : ℕ) (x : List ℕ)
+    → (held ≤ 0 → x ≡ [])
+    → is-ended-at e && ltb 0 held ≡ false
+    → last-by (stands false e) x ≡ []
+none-last Open held x k h = refl
+none-last Ended held x k h = rw (k (ltb-false 0 held h))
+none-last Failed held x k h = refl
+none-last OutOfTurns held x k h = refl
+
+-- where there is one without LF, the input has ended
+ended-line : (e : End) (held : ℕ) → is-ended-at e && ltb 0 held ≡ true → (e ≡ Ended) × (0 < held)
+ended-line Open held h = absurd (true≢false (sym h))
+ended-line Ended held h = (refl, ltb-true 0 held h)
+ended-line Failed held h = absurd (true≢false (sym h))
+ended-line OutOfTurns held h = absurd (true≢false (sym h))
+
 module _ {s : Source} {chunk chunk′ line : List ℕ} {r : Line} (h : HandedOut s chunk chunk′ line r) where
   abbrev all : List ℕ
   all = unread s chunk ++ h .came
@@ -82,52 +114,61 @@ module _ {s : Source} {chunk chunk′ line : List ℕ} {r : Line} (h : HandedOut
   held-is : r .held ≡ length (take (length line) (before-lf all))
   held-is = sym (length-take-le (r .held) line (h .fits)) ∙ ap length (h .text)
 
-  no-line : 0 < length line → r .some ≡ false → (has-lf all ≡ false) × (before-lf all ≡ [])
+  no-line : 0 < length line → r .some ≡ false → (has-lf all ≡ false) × (last-by (r .source .end) (before-lf all) ≡ [])
   no-line l e =
-      let b = either (has-lf all) (ltb 0 (r .held)) (sym (h .some) ∙ e) in
-      (b .0, no-text (length line) (before-lf all) l (omega (arith, held-is, ltb-false 0 (r .held) (b .1))))
+      let b = either (has-lf all) (is-ended-at (h .last) && ltb 0 (r .held)) (sym (h .some) ∙ e) in
+      let t : r .held ≤ 0 → before-lf all ≡ [] = λ z. no-text (length line) (before-lf all) l (omega (arith, held-is)) in
+      (b .0, rw (h .end, b .0) (none-last (h .last) (r .held) (before-lf all) t (b .1)))
 
   -- behind the end of the input there is no line
-  over : s .ended ≡ true → unread s chunk ≡ [] → r .some ≡ true → ⊥
+  over : s .end ≡ Ended → unread s chunk ≡ [] → (all ≡ []) × (r .some ≡ false) × (r .source .end ≡ Ended)
   unfolding has-lf before-lf
-  over e u t =
-      let a : all ≡ [] = rw (u, h .none e) in
+  over e u =
+      let d = shut e (h .reads) in
+      let a : all ≡ [] = rw (u, d .0) in
       let z : r .held ≡ 0 = held-is ∙ (rw (a, take-nil (length line))) in
-      true≢false (sym t ∙ h .some ∙ (rw (a, z)))
+      (a, h .some ∙ (rw (a, d .1, z)), h .end ∙ (rw (a, d .1)))
 
-ended : {room : ℕ} {s : Source} {chunk : List ℕ} {texts : List (List ℕ)} {came : List ℕ}
-    → Calls room s chunk texts came
-    → s .ended ≡ true
+ended : {room : ℕ} {s : Source} {chunk : List ℕ} {texts : List (List ℕ)} {came : List ℕ} {e : End}
+    → Calls room s chunk texts came e
+    → s .end ≡ Ended
     → unread s chunk ≡ []
-    → (texts ≡ []) × (came ≡ [])
-ended (ends z h e) o u = (refl, h .none o)
-ended (goes z h e k) o u = absurd (over h o u e)
+    → (texts ≡ []) × (came ≡ []) × (e ≡ Ended)
+ended (ends z h e) o u = (refl, shut o (h .reads) .0, over h o u .2)
+ended (goes z h e k) o u = absurd (true≢false (sym e ∙ over h o u .1))
 
 -- ---- all calls
 
 one-more : (b : Bool) {room : ℕ} {s : Source} {chunk chunk′ line : List ℕ} {r : Line} {texts : List (List ℕ)}
-    {rest : List ℕ}
+    {rest : List ℕ} {e : End}
     → length line ≡ room
     → (h : HandedOut s chunk chunk′ line r)
     → r .some ≡ true
-    → has-lf (all h) ≡ b → Calls room (r .source) chunk′ texts rest → texts ≡ map (take room) (lines (unread (r .source) chunk′ ++ rest))
-    → take (r .held) line ∷ texts ≡ map (take room) (lines (all h ++ rest))
-one-more true {r = r} {rest = rest} z h e f k q =
+    → has-lf (all h) ≡ b → Calls room (r .source) chunk′ texts rest e
+    → texts ≡ map (take room) (lines-to e [] (unread (r .source) chunk′ ++ rest))
+    → take (r .held) line ∷ texts ≡ map (take room) (lines-to e [] (all h ++ rest))
+one-more true {r = r} {rest = rest} {e = e} z h o f k q =
     let j = behind (all h) rest f in
-    rw (lines-are (all h ++ rest), j .has, j .before, j .after, h .text, z, q, h .rest)
-one-more false {room} {r = r} {rest = rest} z h e f k q =
-    let o : r .source .ended ≡ true = h .ended ∙ rw f in
-    let d = ended k o (h .rest ∙ nothing-after (all h) f) in
-    let l : 0 < r .held = ltb-true 0 (r .held) (sym (rw f at (h .some)) ∙ e) in
-    rw (d .0, d .1, append-nil, lines-are (all h), f, h .text, z)
-    (sym (last-some room (before-lf (all h)) (omega (arith, rw z at (held-is h)))))
+    rw (lines-are e (all h ++ rest), j .has, j .before, j .after, h .text, z, q, h .rest)
+one-more false {room} {r = r} {rest = rest} {e = e} z h o f k q =
+    let l = ended-line (h .last) (r .held) (sym (rw f at (h .some)) ∙ o) in
+    let d = ended k (h .end ∙ rw (f, l .0)) (h .rest ∙ nothing-after (all h) f) in
+    rw (d .0, d .1, d .2, append-nil, lines-are Ended (all h), f, h .text, z)
+    (sym (last-some room (before-lf (all h)) (omega (arith, l .1, rw z at (held-is h)))))
 
+pub every-line-to : {room : ℕ} {s : Source} {chunk : List ℕ} {texts : List (List ℕ)} {came : List ℕ} {e : End}
+    → 0 < room
+    → Calls room s chunk texts came e
+    → texts ≡ map (take room) (lines-to e [] (unread s chunk ++ came))
+every-line-to l (ends {r = r} z h e) =
+    let n = no-line h (omega (arith, z)) e in
+    rw (lines-are (r .source .end) (all h), n .0, n .1)
+every-line-to {s = s} {chunk = chunk} l (goes {rest = rest} z h e k) =
+    rw (← append-assoc (unread s chunk) (h .came) rest) (one-more (has-lf (all h)) z h e refl k (every-line-to l k))
+
+-- where the input has ended they are all its lines
 pub every-line : {room : ℕ} {s : Source} {chunk : List ℕ} {texts : List (List ℕ)} {came : List ℕ}
     → 0 < room
-    → Calls room s chunk texts came
+    → Calls room s chunk texts came Ended
     → texts ≡ map (take room) (lines (unread s chunk ++ came))
-every-line l (ends z h e) =
-    let n = no-line h (omega (arith, z)) e in
-    rw (lines-are (all h), n .0, n .1)
-every-line {s = s} {chunk = chunk} l (goes {rest = rest} z h e k) =
-    rw (← append-assoc (unread s chunk) (h .came) rest) (one-more (has-lf (all h)) z h e refl k (every-line l k))
+every-line {room} {s} {chunk} {came = came} l k = every-line-to l k ∙ ap (map (take room)) (all-lines (unread s chunk ++ came))

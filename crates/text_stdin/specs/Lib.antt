@@ -1,2 +1,3 @@
--- What a line of the input is, and what is left behind it.
+-- Reads of standard input; what a line of the input is, and what is left behind it.
+pub mod Reads
 pub mod Handed

@@ -1,3 +1,4 @@
--- Rows of tables as text.
+-- Texts, rows of tables and decimal numbers.
+pub mod Ascii
 pub mod Rows
 pub mod Decimal

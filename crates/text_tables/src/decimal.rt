@@ -7,7 +7,7 @@ ghost use Rattle.text_hex.specs.Appended.{Appended};
 ghost use Rattle.text_tables.specs.Decimal.{digits};
 
 // The character of a digit.
-fn digit(d: u32) -> u8
+fn digit(d: u64) -> u8
     requires { ⌜ d < 10 ⌝ }
     ensures { λ r. ⌜ r ≡ d + 48 ⌝ }
 {
@@ -15,7 +15,7 @@ fn digit(d: u32) -> u8
 }
 
 // The last k digits at most: those of the tenth first, then the one that is left over. Says where they end.
-pub fn push_digits(out: &mut [u8], at: usize, k: usize, n: u32) -> usize
+pub fn push_digits(out: &mut [u8], at: usize, k: usize, n: u64) -> usize
     requires { ⌜ at + k ≤ length (now out) ⌝ }
     ensures { λ r. ⌜ Appended (now (out .entry)) at (digits k n) k (now (out .exit)) r ⌝ }
 {

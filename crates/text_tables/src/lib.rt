@@ -1,5 +1,5 @@
-// Rows of tables, flags, and pairs of digits. Each function puts its
-// text at `at` of a lent buffer and returns where the text ends.
+// Texts, rows of tables, flags, and pairs of digits. Each function puts
+// its text at `at` of a lent buffer and returns where the text ends.
 pub mod decimal; // decimal numbers
 
 use text_hex::print::push;
@@ -7,6 +7,21 @@ ghost use Prim.Native.Nat.{_+_, _*_, _≤_};
 ghost use lib.ListN.{length, drop};
 ghost use Rattle.text_hex.specs.Appended.{Appended};
 ghost use Rattle.text_tables.specs.Rows.{cell, flag, flags, spaced};
+
+// A whole text.
+pub fn push_text(out: &mut [u8], at: usize, text: &[u8]) -> usize
+    requires { ⌜ at + length (now text) ≤ length (now out) ⌝ }
+    ensures { λ r. ⌜ Appended (now (out .entry)) at (now (text .entry)) (length (now (text .entry)))
+        (now (out .exit)) r ⌝ }
+{
+    let mut end = at;
+    let mut i: usize = 0;
+    while i < text.len() {
+        end = push(out, end, text[i]);
+        i += 1;
+    }
+    end
+}
 
 // The text of a row: it ends at a dot.
 pub fn push_cell(out: &mut [u8], at: usize, table: &[u8], width: usize, row: usize) -> usize

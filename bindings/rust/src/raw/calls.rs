@@ -95,17 +95,8 @@ pub fn slave_respond_and_fill(slave: Slave, bytes: &[u8], fill: u8, readings: &[
     call!(celadonsaw_slave_respond_and_fill(slave, ref bytes, fill, ref readings, mut log))
 }
 
-pub fn start(
-    words: &mut Words,
-    queued: bool,
-    restart: bool,
-    address: u16,
-    kinds: &[u8],
-    lengths: &[u16],
-    written: usize,
-    room: usize,
-) {
-    call!(celadonsaw_start(words, queued, restart, address, ref kinds, ref lengths, written, room))
+pub fn start(words: &mut Words, form: u8, address: u16, kinds: &[u8], lengths: &[u16], written: usize, room: usize) {
+    call!(celadonsaw_start(words, form, address, ref kinds, ref lengths, written, room))
 }
 
 #[inline]

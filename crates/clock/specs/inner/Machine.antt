@@ -4,7 +4,7 @@ use lib.Dec.{eqb, ltb}
 use Rattle.regs.specs.Program.{if_then_else_}
 use Rattle.regs.specs.Registers.{ENABLE, FS-SCL-HCNT, FS-SCL-LCNT, FS-SPKLEN, SDA-HOLD}
 use Rattle.regs.specs.Fields.{set-ic-sda-tx-hold}
-use Rattle.regs.specs.inner.Machine.{Machine}
+use Rattle.regs.specs.Steps.{Machine}
 use Rattle.regs.specs.declared.answers.Answer.the-variants.{Accepted, Refused}
 use Rattle.regs.specs.declared.answers.Refusal.the-variants as R
 use Rattle.regs.specs.declared.access.Next.{Next}

@@ -1,7 +1,7 @@
 -- `export_steps::celadonsaw_advance` meets its contract.
 use borrow.Author.Needs.{needs}
 use mathlib.Core.Path.{_∙_, ap}
-use Rattle.regs.specs.inner.Machine.{stored-in}
+use Rattle.regs.specs.Steps.{stored-in}
 use Rattle.export_steps.proofs.celadonsaw_advance.Statement.{statement}
 use Rattle.export_steps.proofs.celadonsaw_advance.Tie as tie
 

@@ -4,7 +4,7 @@
 use borrow.Author.Needs.{needs}
 use mathlib.Core.Path.{sym, _∙_}
 use Rattle.words.specs.inner.Words.{held-at}
-use Rattle.export_steps.specs.Steps.{ended, access-held}
+use Rattle.export_steps.specs.inner.Steps.{ended, access-held}
 use Rattle.export_steps.proofs.celadonsaw_next_access.Statement.{statement}
 use Rattle.export_steps.proofs.celadonsaw_next_access.Tie as tie
 

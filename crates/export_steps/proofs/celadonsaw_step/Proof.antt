@@ -6,8 +6,8 @@ use mathlib.Core.Path.{_≡_, _∙_, ap}
 use mathlib.Core.Bool.{false}
 use borrow.Author.Tests.{eq-eqb, ne-eqb}
 use lib.Dec.{eqb}
-use Rattle.regs.specs.inner.Machine.{stored-in}
-use Rattle.export_steps.specs.Steps.{access-held}
+use Rattle.regs.specs.Steps.{stored-in}
+use Rattle.export_steps.specs.inner.Steps.{access-held}
 use Rattle.export_steps.proofs.celadonsaw_step.Statement.{statement}
 use Rattle.export_steps.proofs.celadonsaw_step.Tie as tie
 

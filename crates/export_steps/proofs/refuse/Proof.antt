@@ -1,5 +1,5 @@
 -- `export_steps::refuse` meets its contract.
-use Rattle.export_steps.specs.Steps.{over-limits}
+use Rattle.export_steps.specs.inner.Steps.{over-limits}
 use mathlib.Core.Path.{refl}
 use Rattle.export_steps.proofs.refuse.Statement.{statement}
 use Rattle.export_steps.proofs.refuse.Tie as tie

@@ -1,6 +1,6 @@
 -- `told_access`: a match on the access; in each arm the variant rewrites `access-of` to the struct that the
 -- arm builds. For `Finished` the contracts of `number_of` and `detail_of` give number and value.
-use Rattle.export_steps.specs.Steps.{access-of, ended}
+use Rattle.export_steps.specs.inner.Steps.{access-of, ended}
 use borrow.Author.Needs.{needs}
 use Rattle.export_steps.proofs.told_access.Statement.{statement}
 use Rattle.export_steps.proofs.told_access.Tie as tie

@@ -1,28 +1,17 @@
--- A machine of one access a step and its run, over any machine. Only contracts
+-- The run of a machine of one access a step (`Machine` in specs/Steps.antt), over any machine. Only contracts
 -- of inner functions cite this: no public call rests on believing it.
 use Prim.Native.Nat.{ℕ, zero, suc, _+_, _*_}
 use mathlib.Core.List.{List}
 use lib.Dec.{ltb}
 use lib.ListN.{length, getD, set}
 use Rattle.regs.specs.Program.{if_then_else_}
+use Rattle.regs.specs.Steps.{Machine, stored-in}
 use Rattle.regs.specs.declared.answers.Reply.{Reply}
 use Rattle.regs.specs.declared.answers.Reply.the-variants.{Answered, LogFull, OutOfReadings}
 use Rattle.regs.specs.declared.access.Next.{Next}
 use Rattle.regs.specs.declared.access.Next.the-variants.{Read, Write, Mark, Finished}
-use Rattle.regs.specs.declared.access.Store.{Store}
-use Rattle.regs.specs.declared.access.Store.the-variants.{Nothing, Byte}
 use Rattle.regs.specs.declared.access.Performed.{Performed}
 use Rattle.regs.specs.declared.access.Performed.the-variants.{Did, Stopped}
-
--- the points S, with the access that is next at each, where a reading leads, what is done to the lent buffer with
--- it, and the driver's own state K
-pub record Machine : Type 1 where
-  pub S : Type 0
-  pub K : Type 0
-  pub next : S → Next
-  pub advance : S → ℕ → S
-  pub store : S → ℕ → Store
-  pub state : S → K
 
 abbrev pub head-of : Next → ℕ
 head-of (Read r) = 0x100 + r
@@ -62,10 +51,6 @@ entered l k head value = set (set l (k * 2) head) (k * 2 + 1) value
 abbrev pub log-after : Performed → List ℕ → ℕ → Next → List ℕ
 log-after (Did v used) l k n = entered l k (head-of n) (value-of n v)
 log-after (Stopped reply) l k n = l
-
-abbrev pub stored-in : List ℕ → Store → List ℕ
-stored-in b Nothing = b
-stored-in b (Byte i v) = set b i v
 
 -- what a run leaves
 pub record Final (K : Type 0) : Type 0 where

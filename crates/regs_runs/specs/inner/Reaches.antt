@@ -3,7 +3,8 @@ use Prim.Native.Nat.{ℕ, _/_, _-_, _<_, _≤_, _^_}
 use mathlib.Core.List.{List}
 use mathlib.Core.Path.{_≡_}
 use lib.ListN.{length}
-use Rattle.regs.specs.inner.Machine.{Machine, ran}
+use Rattle.regs.specs.inner.Machine.{ran}
+use Rattle.regs.specs.Steps.{Machine}
 
 module _ (M : Machine) (readings : List ℕ) where
   -- from s₀, with e₀ entries and u₀ readings behind it, the log l₀ and the buffer b₀, to s

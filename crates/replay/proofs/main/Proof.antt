@@ -1,6 +1,6 @@
 -- `main`: `length-replicate` gives the lengths of the arrays that `read_all` requires, and its `kept` lengths
--- carry them on to `finish`; `made`, at most the length of `out`, keeps the last slice in range. There is no
--- `ensures`: only ranges and the callees' preconditions are proved.
+-- carry them on to `at_end`, whose `fits` keeps the last slice in range. There is no `ensures`: only ranges and
+-- the callees' preconditions are proved; what is handed to be written is in EveryRead.antt.
 use Prim.Native.Nat.{ℕ, _≤_}
 use mathlib.Core.Path.{_≡_, sym, subst⁻¹, _∙_}
 use lib.ListN.{length, replicate, length-replicate}
@@ -21,7 +21,7 @@ large-buffer-requires : tie.Need-large-buffer-requires
 large-buffer-requires c κs = search needs
 
 slice-aggregate-read-all : tie.Need-slice-aggregate-read-all
-slice-aggregate-read-all c = c .before .large-buffer .ensures
+slice-aggregate-read-all c = search needs
 
 slice-aggregate-read-all-2 : tie.Need-slice-aggregate-read-all-2
 slice-aggregate-read-all-2 c = sym (size 8198)
@@ -56,93 +56,101 @@ read-all-requires c κs = (
   room,
 )
 
-slice-aggregate-finish : tie.Need-slice-aggregate-finish
-slice-aggregate-finish c =
-    let at-readings2 = c .before .before .before .before in
-    let at-text2 = at-readings2 .before .before .before .before in
-    let at-read-all = at-text2 .before .before in
-    sym (at-read-all .read-all .kept .1 .0 ∙ size 8198)
-
-slice-aggregate-finish-2 : tie.Need-slice-aggregate-finish-2
-slice-aggregate-finish-2 c =
+slice-aggregate-at-end : tie.Need-slice-aggregate-at-end
+slice-aggregate-at-end c =
     let at-buffer2 = c .before .before .before .before in
     let at-kinds2 = at-buffer2 .before .before .before .before in
     let at-read-all = at-kinds2 .before .before .before in
-    sym (at-read-all .read-all .kept .1 .1 .0 ∙ size 64)
+    sym (at-read-all .read-all .kept .1 .0 ∙ size 8198)
 
-slice-aggregate-finish-3 : tie.Need-slice-aggregate-finish-3
-slice-aggregate-finish-3 c =
+slice-aggregate-at-end-2 : tie.Need-slice-aggregate-at-end-2
+slice-aggregate-at-end-2 c =
     let at-log2 = c .before .before .before .before in
     let at-lengths2 = at-log2 .before .before .before .before in
     let at-read-all = at-lengths2 .before .before .before .before in
-    sym (at-read-all .read-all .kept .1 .1 .1 .0 ∙ size 64)
+    sym (at-read-all .read-all .kept .1 .1 .0 ∙ size 64)
 
-slice-aggregate-finish-4 : tie.Need-slice-aggregate-finish-4
-slice-aggregate-finish-4 c =
+slice-aggregate-at-end-3 : tie.Need-slice-aggregate-at-end-3
+slice-aggregate-at-end-3 c =
     let at-out2 = c .before .before .before .before in
     let at-bytes2 = at-out2 .before .before .before .before in
     let at-chunk2 = at-bytes2 .before .before .before .before in
     let at-read-all = at-chunk2 .before in
-    sym (at-read-all .read-all .kept .1 .1 .1 .1 .0 ∙ size 4096)
+    sym (at-read-all .read-all .kept .1 .1 .1 .0 ∙ size 64)
 
-slice-aggregate-finish-5 : tie.Need-slice-aggregate-finish-5
-slice-aggregate-finish-5 c =
-    let at-text3 = c .before .before .before .before in
-    let at-readings2 = at-text3 .before .before .before .before in
+slice-aggregate-at-end-4 : tie.Need-slice-aggregate-at-end-4
+slice-aggregate-at-end-4 c =
+    let at-last = c .before .before .before .before in
+    let at-readings2 = at-last .before .before .before .before in
     let at-text2 = at-readings2 .before .before .before .before in
     let at-read-all = at-text2 .before .before in
-    sym (at-read-all .read-all .kept .1 .1 .1 .1 .1 .0 ∙ size 8192)
+    sym (at-read-all .read-all .kept .1 .1 .1 .1 .0 ∙ size 4096)
 
-slice-aggregate-finish-6 : tie.Need-slice-aggregate-finish-6
-slice-aggregate-finish-6 c =
-    let at-kinds3 = c .before .before .before .before in
-    let at-buffer2 = at-kinds3 .before .before .before .before in
+slice-aggregate-at-end-5 : tie.Need-slice-aggregate-at-end-5
+slice-aggregate-at-end-5 c =
+    let at-text3 = c .before .before .before .before in
+    let at-buffer2 = at-text3 .before .before .before .before in
     let at-kinds2 = at-buffer2 .before .before .before .before in
     let at-read-all = at-kinds2 .before .before .before in
-    sym (at-read-all .read-all .kept .1 .1 .1 .1 .1 .1 .0 ∙ size 4096)
+    sym (at-read-all .read-all .kept .1 .1 .1 .1 .1 .0 ∙ size 8192)
 
-slice-aggregate-finish-7 : tie.Need-slice-aggregate-finish-7
-slice-aggregate-finish-7 c =
-    let at-lengths3 = c .before .before .before .before in
-    let at-log2 = at-lengths3 .before .before .before .before in
+slice-aggregate-at-end-6 : tie.Need-slice-aggregate-at-end-6
+slice-aggregate-at-end-6 c =
+    let at-kinds3 = c .before .before .before .before in
+    let at-log2 = at-kinds3 .before .before .before .before in
     let at-lengths2 = at-log2 .before .before .before .before in
     let at-read-all = at-lengths2 .before .before .before .before in
-    sym (at-read-all .read-all .kept .1 .1 .1 .1 .1 .1 .1 .0 ∙ size 16384)
+    sym (at-read-all .read-all .kept .1 .1 .1 .1 .1 .1 .0 ∙ size 4096)
 
-slice-aggregate-finish-8 : tie.Need-slice-aggregate-finish-8
-slice-aggregate-finish-8 c =
-    let at-bytes3 = c .before .before .before .before in
-    let at-out2 = at-bytes3 .before .before .before .before in
+slice-aggregate-at-end-7 : tie.Need-slice-aggregate-at-end-7
+slice-aggregate-at-end-7 c =
+    let at-lengths3 = c .before .before .before .before in
+    let at-out2 = at-lengths3 .before .before .before .before in
     let at-bytes2 = at-out2 .before .before .before .before in
     let at-chunk2 = at-bytes2 .before .before .before .before in
     let at-read-all = at-chunk2 .before in
+    sym (at-read-all .read-all .kept .1 .1 .1 .1 .1 .1 .1 .0 ∙ size 16384)
+
+slice-aggregate-at-end-8 : tie.Need-slice-aggregate-at-end-8
+slice-aggregate-at-end-8 c =
+    let at-bytes3 = c .before .before .before .before in
+    let at-last = at-bytes3 .before .before .before .before in
+    let at-readings2 = at-last .before .before .before .before in
+    let at-text2 = at-readings2 .before .before .before .before in
+    let at-read-all = at-text2 .before .before in
     sym (at-read-all .read-all .kept .1 .1 .1 .1 .1 .1 .1 .1 .0 ∙ size 262144)
 
-finish-requires : tie.Need-finish-requires
-finish-requires c κs =
+at-end-requires : tie.Need-at-end-requires
+at-end-requires c κs =
     let at-bytes3 = c .before .before .before .before in
-    let at-out2 = at-bytes3 .before .before .before .before in
-    let at-bytes2 = at-out2 .before .before .before .before in
-    let at-chunk2 = at-bytes2 .before .before .before .before in
-    let at-read-all = at-chunk2 .before in (
-      at-read-all .read-all .ensures,
+    let at-last = at-bytes3 .before .before .before .before in
+    let at-readings2 = at-last .before .before .before .before in
+    let at-text2 = at-readings2 .before .before .before .before in
+    let at-read-all = at-text2 .before .before in (
+      at-read-all .read-all .ensures .sound,
       subst⁻¹ (λ (n : ℕ). 114717 ≤ n) (at-read-all .read-all .kept .1 .1 .1 .1 .1 .1 .1 .1 .0) room,
     )
 
 array-share-prefix-out : tie.Need-array-share-prefix-out
 array-share-prefix-out c =
     let at-bytes4 = c .before .before .before .before in
-    let at-finish = at-bytes4 .before .before .before in
-    at-finish .finish .ensures .made
+    let at-end = at-bytes4 .before .before .before in
+    at-end .at-end .ensures .fits
 
 slice-aggregate-write-all : tie.Need-slice-aggregate-write-all
 slice-aggregate-write-all c =
     let at-readings4 = c .before .before .before .before in
-    let at-finish = at-readings4 .before .before .before .before in
-    sym (length-take-le _ _ (at-finish .finish .ensures .made))
+    let at-end = at-readings4 .before .before .before .before in
+    sym (length-take-le _ _ (at-end .at-end .ensures .fits))
 
 write-all-requires : tie.Need-write-all-requires
 write-all-requires c κs = search needs
+
+slice-aggregate-stopped : tie.Need-slice-aggregate-stopped
+slice-aggregate-stopped c = search needs
+
+stopped-requires : tie.Need-stopped-requires
+stopped-requires c κs = search needs
 
 returns : tie.Need-returns
 returns c = search needs
@@ -162,16 +170,18 @@ main-spec =
     slice-aggregate-read-all-8
     slice-aggregate-read-all-9
     read-all-requires
-    slice-aggregate-finish
-    slice-aggregate-finish-2
-    slice-aggregate-finish-3
-    slice-aggregate-finish-4
-    slice-aggregate-finish-5
-    slice-aggregate-finish-6
-    slice-aggregate-finish-7
-    slice-aggregate-finish-8
-    finish-requires
+    slice-aggregate-at-end
+    slice-aggregate-at-end-2
+    slice-aggregate-at-end-3
+    slice-aggregate-at-end-4
+    slice-aggregate-at-end-5
+    slice-aggregate-at-end-6
+    slice-aggregate-at-end-7
+    slice-aggregate-at-end-8
+    at-end-requires
     array-share-prefix-out
     slice-aggregate-write-all
     write-all-requires
+    slice-aggregate-stopped
+    stopped-requires
     returns)

@@ -1,7 +1,7 @@
 -- `replay_run::set_config` meets its contract.
 use mathlib.Core.Bool.{false}
 use Rattle.clock.specs.SetConfig.{set-config}
-use Rattle.replay_calls.proofs.Legal.{set-config-legal}
+use Rattle.clock.proofs.Accesses.{every-access-legal}
 use Rattle.replay_calls.proofs.Prints.{room, prints-none}
 use native.Mathlib.Omega.{arith}
 use borrow.Author.Needs.{needs}
@@ -38,7 +38,7 @@ returns c =
     let at-start = at-set-config-arg .before .before .before .before in
     let a = at-start .args in
     let l = at-set-config .set-config in
-    prints-none (set-config (a .frequency) (a .clk)) (set-config-legal (a .frequency) (a .clk)) (a .log .now)
+    prints-none (set-config (a .frequency) (a .clk)) (every-access-legal (a .frequency) (a .clk)) (a .log .now)
     (a .readings .now) tt (at-start .pre .0) (l .ensures) (l .kept .1 .1 .1 .0) false
     (at-push-outcome .push-outcome .ensures)
 

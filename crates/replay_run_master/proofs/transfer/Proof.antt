@@ -50,8 +50,7 @@ returns c =
     let a = at-start .args in
     let l = at-write .write in
     let w = write-call (mode-of (a .form)) (a .address) (a .bytes .now) in
-    let p = transfer-of-legal (a .form) (a .address)
-    (listed (a .kinds .now) (a .lengths .now) (a .bytes .now) (length (a .room .now))) in
+    let p = transfer-of-legal (a .form) (a .address) (a .kinds .now) (a .lengths .now) (a .bytes .now) (a .room .now) in
     rw (at-if1 .if1 .taken, ← at-has-read .has-read .ensures)
     (prints-none w (rw (at-if1 .if1 .taken) at p) (a .log .now) (a .readings .now) tt (at-start .pre .1)
     (rw (at-if1 .if1 .taken) at (l .ensures)) (l .kept .1 .1 .1 .1 .0) (at-has-read .has-read .result)
@@ -108,7 +107,8 @@ returns-2 c =
     ≡ replicate (length (a .room .now)) 0 = rw (ne-eqb _ _ (at-if1 .if1 .left)) in
     rw (q, ← at-has-read .has-read .ensures)
     (rw (at-clear .clear .ensures, length-replicate)
-    at (prints (transfer-of (a .form) (a .address) i) (transfer-of-legal (a .form) (a .address) i)
+    at (prints (transfer-of (a .form) (a .address) i) (transfer-of-legal (a .form) (a .address)
+    (a .kinds .now) (a .lengths .now) (a .bytes .now) b)
     (a .log .now) (a .readings .now) b tt (at-start .pre .1) (l .ensures .ran)
     (l .kept .1 .1 .1 .1 .1 .1 .1 .0) (at-has-read .has-read .result) _ (l .ensures .buffer)
     (omega (arith, at-start .pre .0, at-clear .clear .kept .0, l .kept .1 .1 .1 .1 .1 .0))

@@ -1,18 +1,19 @@
--- `respond`: `prints-none` turns the log that `respond_to_read_from` leaves into the printed text, and
--- `state-left` gives the slave's state; both rest on `respond-to-read-call-legal` and on a log of LOG-WORDS
+-- `respond`: `prints-none` turns the log that `i2c_slave::respond_to_read` leaves into the printed text, and
+-- `state-left` gives the slave's state; both rest on `every-access-legal` and on a log of LOG-WORDS
 -- words. `room` is what `push_outcome` needs.
 use mathlib.Core.Bool.{false}
 use mathlib.Core.List.{[]}
 use Rattle.slave.specs.I2cSlave.{respond-to-read-call}
-use Rattle.slave.proofs.Legals.{respond-to-read-call-legal}
+use Rattle.slave.specs.Calls.{responds}
+use Rattle.slave.proofs.Accesses.{every-access-legal}
 use Rattle.replay_calls.proofs.Prints.{room, prints-none, state-left}
 use native.Mathlib.Omega.{arith}
 use borrow.Author.Needs.{needs}
 use Rattle.replay_run_slave.proofs.respond.Statement.{statement}
 use Rattle.replay_run_slave.proofs.respond.Tie as tie
 
-respond-to-read-from-requires : tie.Need-respond-to-read-from-requires
-respond-to-read-from-requires c κs = search needs
+respond-to-read-requires : tie.Need-respond-to-read-requires
+respond-to-read-requires c κs = search needs
 
 slice-aggregate-push-outcome : tie.Need-slice-aggregate-push-outcome
 slice-aggregate-push-outcome c = search needs
@@ -20,10 +21,10 @@ slice-aggregate-push-outcome c = search needs
 push-outcome-requires : tie.Need-push-outcome-requires
 push-outcome-requires c κs =
     let at-ran = c .before .before .before .before in
-    let at-respond-to-read-from = at-ran .before .before .before in
-    let at-shared-slice-known2 = at-respond-to-read-from .before .before .before .before in
+    let at-respond-to-read = at-ran .before .before .before in
+    let at-shared-slice-known2 = at-respond-to-read .before .before .before .before in
     let at-start = at-shared-slice-known2 .before .before in
-    let l = at-respond-to-read-from .respond-to-read-from in
+    let l = at-respond-to-read .respond-to-read in
     room (l .ensures .ran) (at-start .pre .0) (l .kept .1 .1 .1 .0) _ 0 _ (omega arith) (at-start .pre .1)
 
 same-length : tie.Need-same-length
@@ -36,16 +37,16 @@ returns : tie.Need-returns
 returns c =
     let at-push-outcome = c .before .before in
     let at-slave = at-push-outcome .before .before .before .before in
-    let at-respond-to-read-from = at-slave .before .before .before .before in
-    let at-shared-slice-known2 = at-respond-to-read-from .before .before .before .before in
+    let at-respond-to-read = at-slave .before .before .before .before in
+    let at-shared-slice-known2 = at-respond-to-read .before .before .before .before in
     let at-start = at-shared-slice-known2 .before .before in
     let a = at-start .args in
-    let l = at-respond-to-read-from .respond-to-read-from in
+    let l = at-respond-to-read .respond-to-read in
     record {
-      text = prints-none (respond-to-read-call (a .bytes .now)) (respond-to-read-call-legal (a .bytes .now))
+      text = prints-none (respond-to-read-call (a .bytes .now)) (every-access-legal (responds (a .bytes .now)))
           (a .log .now) (a .readings .now) (a .s) (at-start .pre .0) (l .ensures .ran) (l .kept .1 .1 .1 .0)
           false (at-push-outcome .push-outcome .ensures);
-      slave = state-left (respond-to-read-call (a .bytes .now)) (respond-to-read-call-legal (a .bytes .now))
+      slave = state-left (respond-to-read-call (a .bytes .now)) (every-access-legal (responds (a .bytes .now)))
           (a .log .now) (a .readings .now) [] (a .s) (at-start .pre .0) (l .ensures .ran)
           (l .kept .1 .1 .1 .0) (l .ensures .state);
     }
@@ -54,7 +55,7 @@ pub respond-spec : {M : Type 1} → statement M
 respond-spec =
     tie.close
     (tie.spec
-    respond-to-read-from-requires
+    respond-to-read-requires
     slice-aggregate-push-outcome
     push-outcome-requires
     same-length

@@ -1,15 +1,15 @@
--- The session in bounded space: operations beyond the limits of number 20 are not
--- kept. That it prints the same is proved (proofs/Bound.antt); contracts cite it.
+-- The session in bounded space: operations beyond the limits of number 20 are not kept, and their call is not run but
+-- refused. That it prints the same, since the call's driver refuses them too, is proved (proofs/Bound.antt); contracts cite it.
 use Prim.Native.Nat.{ℕ, _+_}
-use mathlib.Core.Bool.{Bool, true, false}
+use mathlib.Core.Bool.{Bool, true, false, _||_}
 use mathlib.Core.List.{List, [], _∷_, _++_}
 use lib.Dec.{ltb}
 use lib.ListN.{length}
 use Rattle.regs.specs.Program.{if_then_else_}
-use Rattle.master.specs.Operations.{Operation, writes, reads, READ, WRITE}
+use Rattle.master.specs.Operations.{Operation, writes, reads, READ, WRITE, MOST-BYTES, MOST-OPERATIONS}
 use Rattle.slave.specs.declared.SlaveState.{SlaveState}
 use Rattle.text_hex.specs.Print.{answer-text}
-use Rattle.replay_calls.specs.Calls.{MOST-READINGS, Listed, listed, listing, over, outcome-of, outcome-text, has-buffer}
+use Rattle.replay_calls.specs.Calls.{MOST-READINGS, Listed, listed, listing, outcome-of, outcome-text, has-buffer}
 use Rattle.replay_calls.specs.declared.Call.{Call}
 use Rattle.replay_frames.specs.Frame.{Frame, opens, write, read, reading, run, bad}
 use Rattle.replay_session.specs.Session.{Next, going, malformed, wants-of, read-taken, write-taken, complete}
@@ -17,6 +17,10 @@ use Rattle.replay_session.specs.declared.Wants.{Wants}
 use Rattle.replay_session.specs.declared.Wants.the-variants.{Nothing}
 use Rattle.replay_session.specs.declared.Took.{Took}
 use Rattle.replay_session.specs.declared.Took.the-variants.{Now, Never}
+
+-- more than 64 operations, or more than 4,096 bytes of one direction
+abbrev pub over : Listed → Bool
+over l = ltb MOST-OPERATIONS (length (l .kinds)) || (ltb MOST-BYTES (length (l .bytes)) || ltb MOST-BYTES (l .room))
 
 -- the operations so far, or that they are beyond the limits
 pub data Kept : Type 0 where

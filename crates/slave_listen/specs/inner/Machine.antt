@@ -6,7 +6,7 @@ use lib.Dec.{eqb, ltb}
 use Rattle.regs.specs.Program.{if_then_else_, PENDING}
 use Rattle.regs.specs.Registers.{DATA-CMD, INTR-MASK, RAW-INTR-STAT, RX-TL, CLR-STOP-DET, CLR-GEN-CALL, STATUS, RXFLR, CLR-RESTART-DET}
 use Rattle.regs.specs.Fields.{dat, first-data-byte, rd-req, stop-det, gen-call, restart-det, rfne, level}
-use Rattle.regs.specs.inner.Machine.{Machine}
+use Rattle.regs.specs.Steps.{Machine}
 use Rattle.regs.specs.declared.answers.Command.the-variants as C
 use Rattle.regs.specs.declared.answers.Refusal.the-variants as F
 use Rattle.regs.specs.declared.answers.Answer.the-variants.{Heard, Refused}

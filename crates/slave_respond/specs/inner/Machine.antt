@@ -7,7 +7,7 @@ use lib.ListN.{getD}
 use Rattle.regs.specs.Program.{if_then_else_, PENDING}
 use Rattle.regs.specs.Registers.{DATA-CMD, INTR-MASK, RAW-INTR-STAT, CLR-INTR, CLR-RD-REQ, CLR-TX-ABRT, CLR-RX-DONE, TX-ABRT-SOURCE}
 use Rattle.regs.specs.Fields.{tx-empty, rd-req, tx-abrt, rx-done}
-use Rattle.regs.specs.inner.Machine.{Machine}
+use Rattle.regs.specs.Steps.{Machine}
 use Rattle.regs.specs.declared.answers.AbortReason.{AbortReason}
 use Rattle.regs.specs.declared.answers.AbortReason.the-variants as A
 use Rattle.regs.specs.declared.answers.ReadStatus.{ReadStatus}

@@ -7,7 +7,7 @@ use lib.Dec.{eqb, ltb}
 use Rattle.regs.specs.Program.{if_then_else_, BLOCK-RESET}
 use Rattle.regs.specs.Registers.{CON, SAR, INTR-MASK, RX-TL, TX-TL, CLR-INTR, ENABLE, ACK-GENERAL-CALL}
 use Rattle.regs.specs.Fields.{b2n, address-field, con-slave}
-use Rattle.regs.specs.inner.Machine.{Machine}
+use Rattle.regs.specs.Steps.{Machine}
 use Rattle.regs.specs.declared.answers.Refusal.the-variants as F
 use Rattle.regs.specs.declared.answers.Answer.the-variants.{Accepted, Refused}
 use Rattle.regs.specs.declared.access.Next.{Next}

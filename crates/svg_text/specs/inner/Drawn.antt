@@ -4,7 +4,7 @@ use mathlib.Core.List.{List, [], _∷_, _++_}
 use lib.Dec.{eqb}
 use Rattle.regs.specs.Program.{if_then_else_}
 use Rattle.text_hex.specs.Text.{hex2}
-use Rattle.svg_text.specs.Ascii.{ascii}
+use Rattle.text_tables.specs.Ascii.{ascii}
 use Rattle.svg_text.specs.Picture.{shape-text, byte-text, direction-text, column, row, lanes-text, head-text, note-text}
 
 unfoldable pub kind-text : ℕ → ℕ → ℕ → ℕ → List ℕ

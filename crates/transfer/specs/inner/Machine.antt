@@ -9,7 +9,7 @@ use Rattle.regs.specs.Registers.{TAR, DATA-CMD, INTR-MASK, RAW-INTR-STAT, RX-TL
 use Rattle.regs.specs.Registers.{ENABLE, TXFLR, RXFLR, TX-ABRT-SOURCE}
 use Rattle.regs.specs.Fields.{command-word, dat, address-field, level, tx-empty, stop-det, set-m-rx-full}
 use Rattle.regs.specs.Fields.{set-m-tx-empty, set-m-tx-abrt, set-m-stop-det}
-use Rattle.regs.specs.inner.Machine.{Machine}
+use Rattle.regs.specs.Steps.{Machine}
 use Rattle.regs.specs.declared.answers.AbortReason.{AbortReason}
 use Rattle.regs.specs.declared.answers.Answer.the-variants.{Accepted, Refused}
 use Rattle.regs.specs.declared.answers.Refusal.the-variants as X

@@ -1,5 +1,5 @@
 -- `export_calls::slave_calls::celadonsaw_slave_listen` meets its contract.
-use Rattle.export_calls.proofs.Reported.{handed-on}
+use Rattle.export_calls.proofs.Reported.{reports-all}
 use borrow.Author.Needs.{needs}
 use Rattle.export_calls.proofs.slave_calls.celadonsaw_slave_listen.Statement.{statement}
 use Rattle.export_calls.proofs.slave_calls.celadonsaw_slave_listen.Tie as tie
@@ -7,8 +7,8 @@ use Rattle.export_calls.proofs.slave_calls.celadonsaw_slave_listen.Tie 
 state-requires : tie.Need-state-requires
 state-requires c κs = search needs
 
-listen-from-requires : tie.Need-listen-from-requires
-listen-from-requires c κs = search needs
+listen-requires : tie.Need-listen-requires
+listen-requires c κs = search needs
 
 both-requires : tie.Need-both-requires
 both-requires c κs = search needs
@@ -22,12 +22,11 @@ same-length-2 c = search needs
 returns : tie.Need-returns
 returns c =
     let at-buffer = c .before .before .before .before in
-    let at-listen-from = at-buffer .before in
-    let at-state = at-listen-from .before .before .before in
-    handed-on (at-listen-from .listen-from .result)
-    (rw (at-state .state .ensures) at (at-listen-from .listen-from .ensures)) (c .both .ensures)
+    let at-listen = at-buffer .before in
+    let at-state = at-listen .before .before .before in
+    reports-all (c .both .ensures) (rw (at-state .state .ensures) at (at-listen .listen .ensures))
 
 pub celadonsaw-slave-listen-spec : {M : Type 1} → statement M
 celadonsaw-slave-listen-spec =
     tie.close
-    (tie.spec state-requires listen-from-requires both-requires same-length same-length-2 returns)
+    (tie.spec state-requires listen-requires both-requires same-length same-length-2 returns)

@@ -1,0 +1,2 @@
+-- Lines of answers in order.
+pub mod Lines

@@ -1,0 +1,2 @@
+-- What the replay does with all that is read.
+pub mod Replayed

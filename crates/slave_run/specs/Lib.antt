@@ -1,0 +1,3 @@
+-- The calls as requests.
+pub mod Requests
+pub mod inner
