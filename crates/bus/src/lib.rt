@@ -205,7 +205,7 @@ impl Bus {
         ensures { λ r. ⌜ r ≡ after w ⌝ }
     {
         if has_stop(w) {
-            Bus::Idle
+            Bus::Idle // STOP frees the bus
         } else {
             Bus::Busy(Direction::of(w))
         }

@@ -8,12 +8,20 @@ use lib.Dec.{eqb, ltb}
 use borrow.Author.Tests.{ltb-true, ltb-false, lt-ltb, le-ltb}
 use Rattle.regs.proofs.Tests.{by-test}
 use Rattle.regs.specs.Program.{ends}
+use Rattle.regs.specs.declared.answers.Refusal.the-variants.{ClockTooSlow}
 use Rattle.regs.proofs.Refine.{Agree, ends-agree, reads-agree, writes-agree}
-use Rattle.clock.specs.SetConfig.{set-config, set-counts, set-registers, hold-below-1-mhz, hold-at-1-mhz, spklen, as-u16}
-use Rattle.clock.specs.Datasheet.{hcnt, lcnt, hold}
-use Rattle.clock.specs.inner.Machine.{machine, fits, reaches, holds, start-of, after-disable}
+use Rattle.clock_setting.specs.SetConfig.{set-config, set-counts, set-registers, period, lcnt-of, hcnt-of}
+use Rattle.clock_setting.specs.SetConfig.{hold-below-1-mhz, hold-at-1-mhz, spklen, as-u16}
+use Rattle.clock_setting.specs.Datasheet.{hcnt, lcnt, hold}
+use Rattle.clock_setting.proofs.Table.{small}
+use Rattle.clock.specs.inner.Machine.{machine, setting, fits, reaches, holds, start-of, after-disable}
 use Rattle.clock.specs.declared.Setting.{Setting}
-use Rattle.clock.specs.declared.Setting.the-variants.{Legal}
+use Rattle.clock.specs.declared.Setting.the-variants.{Legal, Illegal}
+
+-- the machine at two limits of row 5, computed: a high count of 7, and 1 MHz at 32,000,000 Hz
+limits : (setting 100000 1700000 ≡ Illegal ClockTooSlow) × (setting 1000000 32000000 ≡ Illegal ClockTooSlow)
+unfolding fits reaches holds hold hold-below-1-mhz hold-at-1-mhz period lcnt-of hcnt-of
+limits = (refl, refl)
 
 -- the hold rule as the machine tests it
 hold-test : (l d : ℕ) → 0 < d → ltb l (d + 2) ≡ ltb (l - 2) d
@@ -21,9 +29,6 @@ hold-test l d h =
     by-test (ltb (l - 2) d)
     (λ q. let a : l - 2 < d = ltb-true (l - 2) d q in rw (q, lt-ltb l (d + 2) (omega arith)))
     (λ q. let a : d ≤ l - 2 = ltb-false (l - 2) d q in rw (q, le-ltb l (d + 2) (omega arith)))
-
-pub small : (n : ℕ) → ltb 0xffff n ≡ false → as-u16 n ≡ n
-small n q = let h : n ≤ 65535 = ltb-false 65535 n q in omega arith
 
 module _ (f clk h l : ℕ) where
   abbrev legal : ℕ → Setting

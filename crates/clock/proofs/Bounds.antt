@@ -2,7 +2,7 @@
 use Prim.Native.Nat.{ℕ}
 use Rattle.regs.specs.Bounds.{Bounded}
 use Rattle.regs.proofs.Bounded.{bounded-by}
-use Rattle.clock.specs.SetConfig.{set-config}
+use Rattle.clock_setting.specs.SetConfig.{set-config}
 use Rattle.clock.specs.inner.Machine.{machine, start-of}
 use Rattle.clock.proofs.Agrees.{set-config-agrees}
 

@@ -1,6 +1,6 @@
 -- Clock setup by steps is `set_config`. It rests on `set-config-agrees`.
 use Rattle.regs.proofs.Stepped.{stepped-as}
-use Rattle.clock.specs.SetConfig.{set-config}
+use Rattle.clock_setting.specs.SetConfig.{set-config}
 use Rattle.clock.specs.Steps.{SteppedSetConfig}
 use Rattle.clock.specs.inner.Machine.{machine, start-of}
 use Rattle.clock.proofs.Agrees.{set-config-agrees}

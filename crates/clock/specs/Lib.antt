@@ -1,6 +1,3 @@
--- Clock setup: the Rust's `set_config`, what the documents ask of its counts, the table of refusals, stepping by hand, and the machine.
-pub mod SetConfig
-pub mod Datasheet
-pub mod Table
+-- Clock setup by code: stepping by hand, and the machine. What a setting is to do is in `clock_setting`.
 pub mod Steps
 pub mod inner

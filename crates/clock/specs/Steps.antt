@@ -2,7 +2,7 @@
 use Prim.Native.Nat.{ℕ}
 use Rattle.regs.specs.Steps.{SteppedAs}
 use Rattle.regs.specs.declared.access.Store.the-variants.{Nothing}
-use Rattle.clock.specs.SetConfig.{set-config}
+use Rattle.clock_setting.specs.SetConfig.{set-config}
 use Rattle.clock.specs.declared.ClockPoint.{ClockPoint}
 use Rattle.clock.specs.inner.Machine.{start-of, next-of, advance-of}
 

@@ -4,7 +4,7 @@ use Rattle.regs.specs.Fields.{set-field}
 use Rattle.regs.specs.Program.{outcome, turns, rounds}
 use Rattle.regs.specs.Log.{Each}
 use Rattle.bus.specs.Bus.{written-to}
-use Rattle.clock.specs.SetConfig.{set-config, period, lcnt-of, hcnt-of, hold-below-1-mhz, hold-at-1-mhz, spklen}
+use Rattle.clock_setting.specs.SetConfig.{set-config, period, lcnt-of, hcnt-of, hold-below-1-mhz, hold-at-1-mhz, spklen}
 use Rattle.master.specs.Driver.{setup, tx-fifo-capacity, tx-fifo-full, rx-fifo-len, read-and-clear-abort-reason}
 use Rattle.master.specs.Blocking.{read-blocking-bytes, read-blocking-internal, write-blocking-bytes, write-blocking-internal}
 use Rattle.master.specs.Async.{wait-stop-det, queue-batch, fetch-bytes, read-async-internal, fill, write-async-internal}

@@ -12,7 +12,7 @@ use Rattle.regs.specs.Log.{expected}
 use Rattle.regs.specs.declared.answers.Reply.{Reply}
 use Rattle.regs.specs.declared.access.Entry.the-variants.{Read, Write, Marked}
 use Rattle.bus.specs.Bus.{written-to}
-use Rattle.clock.specs.SetConfig.{set-config}
+use Rattle.clock_setting.specs.SetConfig.{set-config}
 use Rattle.master.specs.Operations.{Mode, blocking, async}
 use Rattle.master.specs.Calls.{Lent, reads-into, writes-from, left-by-call}
 use Rattle.slave.specs.Calls.{resets}

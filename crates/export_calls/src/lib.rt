@@ -9,7 +9,7 @@ ghost use mathlib.Core.Path.{_≡_};
 ghost use mathlib.Core.List.{[]};
 ghost use lib.ListN.{length};
 ghost use Rattle.regs.specs.Log.{expected};
-ghost use Rattle.clock.specs.SetConfig.{set-config};
+ghost use Rattle.clock_setting.specs.SetConfig.{set-config};
 ghost use Rattle.master.specs.Operations as Spec;
 ghost use Rattle.master.specs.Transfer.{read-call, write-call, write-read-call, transaction-call};
 ghost use Rattle.export_calls.specs.Report.{report-of, Reports, ReportsBuffer};

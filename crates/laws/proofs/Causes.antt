@@ -16,11 +16,11 @@ use Rattle.regs.specs.Program.{Behaviour, ends, reads, writes, marks, stores, a
 use Rattle.regs.specs.Program.{exit, return, _>>_, _>>=_}
 use Rattle.regs.specs.declared.access.Entry.{Entry}
 use Rattle.regs.specs.declared.answers.Answer.{Answer}
-use Rattle.regs.specs.declared.answers.Answer.the-variants.{Heard, Refused}
+use Rattle.regs.specs.declared.answers.Answer.the-variants.{Accepted, Heard, Refused}
 use Rattle.regs.specs.declared.answers.Refusal.the-variants.{NoPlaceForPending}
 use Rattle.regs.specs.declared.answers.Reply.{Reply}
 use Rattle.regs.specs.declared.answers.Reply.the-variants.{Answered, LogFull, OutOfReadings}
-use Rattle.clock.specs.SetConfig.{set-config}
+use Rattle.clock_setting.specs.SetConfig.{set-config}
 use Rattle.master.specs.Driver.{setup}
 use Rattle.master.specs.Operations as Op
 use Rattle.master.specs.Operations.{Transfer, Mode, blocking, async, operations-of, fits, lists, listed}
@@ -131,6 +131,12 @@ setup-opens : (address n : ℕ) (k : Unit {0} → Behaviour (Unit {0}) Answer)
 unfolding setup
 setup-opens address n k = by-test (ltb address 0x80) (λ q. rw q tt) (λ q. rw q refl)
 
+-- without operations an async transaction makes no access and is accepted, in range or not
+idle-opens : (in-range : Bool)
+    → OpensAs {S = Unit {0}} (first ((not (idle async []) && not in-range numbered 6) ∷ [])) tt (ends Accepted)
+idle-opens true = refl
+idle-opens false = refl
+
 transfer-opens : (mode : Mode) (address : ℕ) (x : Transfer ℕ) (n : ℕ)
     → OpensAs (first ((not (idle mode (operations-of x)) && not (ltb address 0x80) numbered 6) ∷ [])) tt (transfer mode address x n ends)
 unfolding blocking-read blocking-write blocking-write-read blocking-transaction read-async write-async write-read-async transaction-async
@@ -142,7 +148,7 @@ transfer-opens blocking address (Op.transaction os) n = setup-opens address n _
 transfer-opens async address (Op.read len) n = setup-opens address n _
 transfer-opens async address (Op.write bs) n = setup-opens address n _
 transfer-opens async address (Op.write-read bs len) n = setup-opens address n _
-transfer-opens async address (Op.transaction []) n = refl
+transfer-opens async address (Op.transaction []) n = idle-opens (ltb address 0x80)
 transfer-opens async address (Op.transaction (o ∷ os)) n = setup-opens address n _
 
 within-opens : (limits : Bool) (mode : Mode) (address : ℕ) (x : Transfer ℕ) (n : ℕ)

@@ -11,7 +11,7 @@ use Rattle.regs.specs.declared.answers.Reply.{Reply}
 use Rattle.regs.proofs.Tests.{by-test}
 use Rattle.regs.proofs.Stores.{Stores, writes-stores, Late, Opens, refuses, begins, Whole, whole, none, any}
 use Rattle.regs.proofs.Quiet.{quiet}
-use Rattle.clock.specs.SetConfig.{set-config, set-counts, period, hcnt-of, lcnt-of}
+use Rattle.clock_setting.specs.SetConfig.{set-config, set-counts, period, hcnt-of, lcnt-of}
 use Rattle.master.proofs.Buffer.{left-whole}
 use Rattle.slave.proofs.Calls as Slave
 use Rattle.laws.specs.Calls.{Call, clock, master, slave, State, buffer-in, kept-in, left-by}

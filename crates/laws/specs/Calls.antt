@@ -4,7 +4,7 @@ use mathlib.Core.List.{List, []}
 use Rattle.regs.specs.Program.{Outcome}
 use Rattle.regs.specs.Log.{expected}
 use Rattle.regs.specs.declared.answers.Reply.{Reply}
-use Rattle.clock.specs.SetConfig.{set-config}
+use Rattle.clock_setting.specs.SetConfig.{set-config}
 use Rattle.master.specs.Calls as Master
 use Rattle.slave.specs.Calls as Slave
 use Rattle.slave.specs.Counts as Counts

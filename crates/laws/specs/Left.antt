@@ -1,5 +1,5 @@
 -- The table of refusals (docs/MANUAL.md, "The numbers"), its column "Left as it was", for every public call.
--- Of 4 and 5, "all but ENABLE 0", `ByTable` in crates/clock/specs/Table.antt has the log.
+-- Of 4 and 5, "all but ENABLE 0", `ByTable` in crates/clock_setting/specs/Table.antt has the log.
 use Prim.Native.Nat.{ℕ}
 use mathlib.Core.List.{List}
 use lib.Dec.{T}

@@ -5,9 +5,9 @@ use lib.Dec.{eqb, ltb}
 use mathlib.Core.Bool.{Bool, true, false, not, _||_}
 use mathlib.Core.List.{List, [], _∷_}
 use Rattle.regs.specs.Registers.{INTR-MASK}
-use Rattle.regs.specs.Fields.{no-acknowledge, arb-lost, set-m-tx-abrt, set-m-stop-det}
+use Rattle.regs.specs.Fields.{set-m-tx-abrt, set-m-stop-det}
 use Rattle.regs.specs.Program.{if_then_else_, modify, ok, err, done, pending, ready}
-use Rattle.regs.specs.declared.answers.AbortReason.the-variants.{NoAcknowledge, ArbitrationLoss, Other}
+use Rattle.regs.specs.declared.answers.AbortReason.{AbortReason}
 use Rattle.regs.specs.Legality.{LegalCall, DisabledCall, NoTxNotEmpty}
 use Rattle.regs.proofs.Proper.{ProperReason, ProperAnswer, ProperTried, InPoll, InTurn}
 use Rattle.regs.proofs.Legal.{LegalP, LegalWith, legal, reads-legal, if-program, when-legal, ends-legal, rounds-with}
@@ -40,13 +40,12 @@ len-legal : LegalP rx-fifo-len
 unfolding rx-fifo-len
 len-legal = search legal
 
+if-proper : (q : Bool) (a b : AbortReason) → ProperReason a → ProperReason b → ProperReason (if q then a else b)
+if-proper true a b h k = h
+if-proper false a b h k = k
+
 reason-proper : (w : ℕ) → ProperReason (reason-of w)
-reason-proper w = go (no-acknowledge w) (arb-lost w)
-  where
-    go : (a b : Bool) → ProperReason (if a then NoAcknowledge else (if b then ArbitrationLoss else Other w))
-    go true b = tt
-    go false true = tt
-    go false false = tt
+reason-proper w = search if-proper
 
 abort-legal : LegalWith ProperTried read-and-clear-abort-reason
 unfolding read-and-clear-abort-reason
@@ -82,7 +81,7 @@ stop-poll-legal : (had-abort : Tried (Unit {0})) → LegalWith (InPoll ProperTri
 stop-poll-legal had-abort = search (legal, abort-legal) depth 20
 
 both-proper : (a b : Tried (Unit {0})) → ProperTried a → ProperTried b → ProperTried (both a b)
-both-proper (ok u) b c e = e
+both-proper (ok u) b c e = search
 both-proper (err reason) b c e = c
 
 stop-det-legal : (had-abort : Tried (Unit {0}))

@@ -9,7 +9,7 @@ use Rattle.regs.specs.Answers.{number}
 use Rattle.regs.specs.declared.answers.Answer.{Answer}
 use Rattle.regs.specs.declared.answers.Reply.{Reply}
 use Rattle.regs.specs.declared.answers.Reply.the-variants.{Answered, LogFull, OutOfReadings}
-use Rattle.clock.specs.SetConfig.{set-config}
+use Rattle.clock_setting.specs.SetConfig.{set-config}
 use Rattle.master.specs.Driver.{Driver}
 use Rattle.master.specs.Operations.{Operation, writes, reads, Mode, blocking, async, READ, WRITE}
 use Rattle.master.specs.Transfer.{read-call, write-call, write-read-call, transaction-call}

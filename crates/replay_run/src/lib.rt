@@ -9,7 +9,7 @@ ghost use mathlib.Core.Bool.{true, false};
 ghost use mathlib.Core.List.{[]};
 ghost use Prim.Native.Nat.{_+_, _≤_};
 ghost use lib.ListN.{length};
-ghost use Rattle.clock.specs.SetConfig.{set-config};
+ghost use Rattle.clock_setting.specs.SetConfig.{set-config};
 ghost use Rattle.text_hex.specs.Appended.{Appended};
 ghost use Rattle.replay_calls.specs.Calls.{listed, replayed, outcome-text};
 ghost use Rattle.replay_calls.specs.inner.Runs.{LOG-WORDS, MOST-TEXT, Runs, listened, Ran-as};

@@ -5,14 +5,15 @@ use mathlib.Core.Bool.{Bool, false, not}
 use mathlib.Core.List.{List, [], _∷_}
 use mathlib.Core.Path.{_≡_, refl}
 use lib.Dec.{eqb, ltb, T}
-use lib.ListN.{length, replicate}
+use lib.ListN.{length}
 use Rattle.regs.proofs.Tests.{by-test}
+use Rattle.regs.proofs.Proper.{InTurn}
 use Rattle.regs.proofs.Stores.{Stores, reads-stores, writes-stores, marks-stores, cut-stores, Late, Opens, refuses, begins}
 use Rattle.regs.proofs.Stores.{Whole, whole, any}
 use Rattle.regs.proofs.Quiet.{Quiet, quiet, ends-late}
 use Rattle.regs.specs.Left.{no-access}
 use Rattle.regs.specs.Registers.{INTR-MASK}
-use Rattle.regs.specs.Program.{Behaviour, ends, put, rounds, polled, pending, ready, Result, ok, err, by-turn, _>>=_, return}
+use Rattle.regs.specs.Program.{Behaviour, ends, put, rounds, polled, pending, ready, Result, ok, err, Turn, again, done, by-turn, _>>=_, return}
 use Rattle.regs.specs.declared.answers.AbortReason.{AbortReason}
 use Rattle.regs.specs.declared.answers.AbortReason.the-variants as A
 use Rattle.regs.specs.declared.answers.Answer.{Answer}
@@ -22,9 +23,9 @@ use Rattle.regs.specs.declared.answers.ReadStatus.the-variants.{Done, NeedMoreB
 use Rattle.regs.specs.declared.answers.Refusal.{Refusal}
 use Rattle.regs.specs.declared.answers.Reply.{Reply}
 use Rattle.regs.specs.declared.answers.Reply.the-variants.{Answered}
-use Rattle.slave.specs.I2cSlave.{FIFO-SIZE, Responded-to, answer, is-empty, reset, reset-call, send-chunk}
+use Rattle.slave.specs.I2cSlave.{Responded-to, answer, is-empty, reset, reset-call, send-chunk}
 use Rattle.slave.specs.I2cSlave.{respond-chunk, respond-abort, respond-poll, respond-mask, respond-to-read, till-stop}
-use Rattle.slave.specs.I2cSlave.{respond-till-stop, filled, and-fill, respond-and-fill, respond-to-read-call}
+use Rattle.slave.specs.I2cSlave.{fill-bytes, respond-till-stop, filled, and-fill, respond-and-fill, respond-to-read-call}
 use Rattle.slave.specs.I2cSlave.{respond-till-stop-call, respond-and-fill-call}
 use Rattle.slave.specs.Calls.{Call, resets, listens, responds, fills, responds-and-fills, buffer-in, left-by-call}
 use Rattle.slave.specs.Counts.{kept, Tells}
@@ -39,6 +40,12 @@ Rests me t = Stores kept (Late any) 0 0 (kept me) me t
 abbrev Fine : {B : Type 0} → Result B Refusal → Type 0
 Fine (ok b) = Unit {0}
 Fine (err e) = T (not (no-access (Answered (Refused e))))
+
+till-fine : (r : Result ReadStatus Refusal) → Fine r → InTurn Fine (till-stop r)
+till-fine (ok NeedMoreBytes) fine = tt
+till-fine (ok Done) fine = tt
+till-fine (ok (LeftoverBytes c)) fine = tt
+till-fine (err e) fine = fine
 
 send-chunk-quiet : (chunk : List ℕ) → Quiet kept (Late any) (send-chunk chunk)
 unfolding send-chunk
@@ -82,20 +89,19 @@ module _ (me : SlaveState) (n : ℕ) where
   module _ (fill : ℕ) (k : Result (Unit {0}) Refusal → Behaviour SlaveState Answer)
       (comes : (r : Result (Unit {0}) Refusal) → Fine r → Rests me (k r)) where
     abbrev filling : ℕ → Behaviour SlaveState Answer
-    filling left = rounds left n (λ _. respond-to-read (replicate FIFO-SIZE fill) >>= (λ r. return (till-stop r))) tt k
+    filling left = rounds left n (λ _. respond-to-read (fill-bytes fill) >>= (λ r. return (till-stop r))) tt k
 
-    turn-rests : (left : ℕ) → Rests me (filling left) → (r : Result ReadStatus Refusal) → Fine r
-        → Rests me (by-turn (till-stop r) (λ _. filling left) k)
-    turn-rests left ih (ok NeedMoreBytes) fine = ih
-    turn-rests left ih (ok Done) fine = comes (ok tt) tt
-    turn-rests left ih (ok (LeftoverBytes c)) fine = comes (ok tt) tt
-    turn-rests left ih (err e) fine = comes (err e) fine
+    turn-rests : (left : ℕ) → Rests me (filling left) → (t : Turn (Unit {0}) (Result (Unit {0}) Refusal)) → InTurn Fine t
+        → Rests me (by-turn t (λ _. filling left) k)
+    turn-rests left ih (again _) fine = ih
+    turn-rests left ih (done r) fine = comes r fine
 
     filling-rests : (left : ℕ) → Rests me (filling left)
     unfolding rounds
     filling-rests zero = cut-stores refl
     filling-rests (suc left) =
-        read-rests (λ r. by-turn (till-stop r) (λ _. filling left) k) (turn-rests left (filling-rests left)) (replicate FIFO-SIZE fill) refl
+        read-rests (λ r. by-turn (till-stop r) (λ _. filling left) k)
+        (λ r fine. turn-rests left (filling-rests left) (till-stop r) (till-fine r fine)) (fill-bytes fill) refl
 
   and-fill-rests : (fill : ℕ) (k : Result ReadStatus Refusal → Behaviour SlaveState Answer)
       → ((r : Result ReadStatus Refusal) → Fine r → Rests me (k r))
@@ -104,7 +110,7 @@ module _ (me : SlaveState) (n : ℕ) where
   and-fill-rests fill k comes (ok NeedMoreBytes) fine = filling-rests fill _ filled-rests n
     where
       filled-rests : (r : Result (Unit {0}) Refusal) → Fine r → Rests me (k (filled r))
-      filled-rests (ok _) fine = comes (ok Done) tt
+      filled-rests (ok _) fine = comes _ tt
       filled-rests (err e) fine = comes (err e) fine
   and-fill-rests fill k comes (ok Done) fine = comes (ok Done) tt
   and-fill-rests fill k comes (ok (LeftoverBytes c)) fine = comes (ok (LeftoverBytes c)) tt
@@ -144,13 +150,17 @@ till-stop-opens : (fill : ℕ) (me : SlaveState) (n : ℕ) → Calls me (respond
 unfolding respond-till-stop-call respond-till-stop
 till-stop-opens fill me n = begins (filling-rests me n fill _ (answered me n (λ _. Accepted) (λ _. tt)) n)
 
+filled-up-opens : (bytes : List ℕ) (fill : ℕ) (me : SlaveState) (n : ℕ)
+    → Calls me (respond-and-fill bytes fill n (λ r. ends (answer Responded r)))
+unfolding respond-and-fill respond-to-read
+filled-up-opens [] fill me n = refuses tt
+filled-up-opens (b ∷ bs) fill me n =
+    begins (read-rests me n _ (and-fill-rests me n fill _ (answered me n Responded (λ _. tt))) (b ∷ bs) refl)
+
 and-fill-opens : (bytes : List ℕ) (fill : ℕ) (me : SlaveState) (n : ℕ) → Calls me (respond-and-fill-call bytes fill n ends)
-unfolding respond-and-fill-call respond-and-fill respond-to-read
-and-fill-opens [] fill me n = refuses tt
-and-fill-opens (b ∷ bs) fill me n =
-    by-test (ltb 4096 (length (b ∷ bs)))
-    (λ q. rw q (refuses tt))
-    (λ q. rw q (begins (read-rests me n _ (and-fill-rests me n fill _ (answered me n Responded (λ _. tt))) (b ∷ bs) refl)))
+unfolding respond-and-fill-call
+and-fill-opens bytes fill me n =
+    by-test (ltb 4096 (length bytes)) (λ q. rw q (refuses tt)) (λ q. rw q (filled-up-opens _ fill me n))
 
 -- what the answer says of the bytes stored, where there is a buffer
 abbrev pub Told : Call → Reply → ℕ → Type 0

@@ -7,3 +7,4 @@ pub mod Calls
 pub mod Waits
 pub mod Responses
 pub mod Sends
+pub mod Fills

@@ -9,7 +9,7 @@ use lib.Dec.{eqb, ltb}
 use lib.ListN.{length, take, drop, replicate}
 use Rattle.regs.specs.Fields.{no-acknowledge, arb-lost, tx-flush-cnt}
 use Rattle.regs.specs.Registers.{TX-ABRT-SOURCE}
-use Rattle.regs.specs.Program.{if_then_else_, Outcome, just, logged}
+use Rattle.regs.specs.Program.{if_then_else_, Outcome, just, logged, Result, ok, err}
 use Rattle.regs.specs.declared.access.Entry.the-variants as E
 use Rattle.regs.specs.declared.answers.AbortReason.the-variants as A
 use Rattle.regs.specs.declared.answers.Answer.{Answer}
@@ -18,13 +18,13 @@ use Rattle.regs.specs.declared.answers.ReadStatus.the-variants.{Done, NeedMoreB
 use Rattle.regs.specs.declared.answers.Refusal.{Refusal}
 use Rattle.regs.specs.declared.answers.Reply.{Reply}
 use Rattle.regs.specs.declared.answers.Reply.the-variants.{Answered, LogFull, OutOfReadings}
-use Rattle.slave.specs.I2cSlave.{FIFO-SIZE, abort-reason, answer}
+use Rattle.slave.specs.I2cSlave.{FIFO-SIZE, abort-reason, answer, fill-bytes, filled}
 use Rattle.slave.specs.Counts.{words-sent, sent-first, words-by-poll, InChunks, OneChunkAPoll, SentOf}
 use Rattle.slave.specs.Counts.{BytesInOrder, AllSent, SentFilled, FillsAfterBytes, FillsAlone, last-read}
 use Rattle.slave.specs.Counts.{TrueLeftover, TrueLeftoverFilled}
 use Rattle.slave.specs.declared.SlaveState.{SlaveState}
-use Rattle.slave.proofs.Waits.{Claim, Kept}
-use Rattle.slave.proofs.Responses.{Ends, Again, responded, filled-after, filled-alone}
+use Rattle.slave.proofs.Waits.{Claim, Kept, cleared-all}
+use Rattle.slave.proofs.Responses.{Ends, Again, ended, told, responded, filled-after, filled-alone}
 
 -- ---- one chunk a poll
 
@@ -161,7 +161,7 @@ filled-ends f =
 
 -- a chunk of fill bytes, and more of them, are fill bytes
 chunk-filled : (f w : ℕ) (o : Outcome SlaveState Reply)
-    → Filled f w (take FIFO-SIZE (replicate FIFO-SIZE f)) (drop FIFO-SIZE (replicate FIFO-SIZE f)) o
+    → Filled f w (take FIFO-SIZE (fill-bytes f)) (drop FIFO-SIZE (fill-bytes f)) o
     → Filled f w [] [] o
 chunk-filled f w o h =
     let e : 16 + h .fills ≡ suc
@@ -252,8 +252,12 @@ again-filled f w t h = record { holds = λ room rs b z. chunk-filled f w _ (h .h
 
 pub fills-after-bytes : FillsAfterBytes
 fills-after-bytes bytes fill log readings me =
-    let h = filled-after (Filled fill) (filled-kept fill) (filled-ends fill)
-    (λ w c q b z. none-filled fill w c q _ b z) fill (again-filled fill) bytes _ .holds (length log / 2)
+    let h = filled-after (Filled fill) (filled-kept fill) fill (again-filled fill)
+    (λ w c q why. ended (Filled fill) (filled-kept fill) (none-filled fill w c q _))
+    (λ w c q r came t. cleared-all (Filled fill) (filled-kept fill) r
+    (ended (Filled fill) (filled-kept fill) (none-filled fill w c q _)))
+    (λ w c q r x came e. cleared-all (Filled fill) (filled-kept fill) r
+    (ended (Filled fill) (filled-kept fill) (none-filled fill w c q _))) _ bytes .holds (length log / 2)
     readings [] me in
     record {
       fills = h .fills;
@@ -262,11 +266,20 @@ fills-after-bytes bytes fill log readings me =
     }
 
 pub fills-alone : FillsAlone
-fills-alone fill log readings me = filled-alone (Filled fill) (filled-kept fill) fill (again-filled fill)
-    (λ w c q a b z. none-filled fill w c q _ b z) _ .holds (length log / 2) readings [] me
+fills-alone fill log readings me = filled-alone (Filled fill) (filled-kept fill) fill (again-filled fill) _
+    (λ w c q r x came e. cleared-all (Filled fill) (filled-kept fill) r
+    (ended (Filled fill) (filled-kept fill) (none-filled fill w c q _))) .holds (length log / 2) readings [] me
+
+filled-counted : (x : Result (Unit {0}) Refusal) (w : ℕ) (c q b : List ℕ) (z : SlaveState)
+    → Counted w c q (just (Answered (answer Responded (filled x))) b z)
+filled-counted (ok _) w c q b z n h = let z : _≡_ {A = ℕ} 0 1 = cc in absurd (omega arith)
+filled-counted (err e) w c q b z n h = let z : _≡_ {A = ℕ} 0 1 = cc in absurd (omega arith)
 
 pub true-leftover-filled : TrueLeftoverFilled
 true-leftover-filled bytes fill log readings me n e =
-    let h = filled-after Counted counted-kept counted-ends (λ w c q b z. counted-ends .done w b z) fill
-    (λ w t h. record { holds = h .holds }) bytes _ .holds (length log / 2) readings [] me n e in
+    let h = filled-after Counted counted-kept fill (λ w t h. record { holds = h .holds })
+    (λ w c q why. ended Counted counted-kept (counted-ends .refused w c q why))
+    (λ w c q r came t. told Counted counted-kept counted-ends w c q r came)
+    (λ w c q r x came e. cleared-all Counted counted-kept r (ended Counted counted-kept (filled-counted x w c q)))
+    _ bytes .holds (length log / 2) readings [] me n e in
     record { count = h .0; reason = h .1 }

@@ -9,7 +9,7 @@ use mathlib.Core.Logic.{_⊎_, inl, inr}
 use lib.Dec.{eqb}
 use lib.ListN.{take, drop}
 use Rattle.regs.proofs.Tests.{by-test}
-use Rattle.regs.specs.Registers.{DATA-CMD, INTR-MASK, TX-ABRT-SOURCE}
+use Rattle.regs.specs.Registers.{DATA-CMD, INTR-MASK, TX-ABRT-SOURCE, CLR-RX-DONE, CLR-INTR}
 use Rattle.regs.specs.Fields.{tx-empty, rd-req, tx-abrt, rx-done}
 use Rattle.regs.specs.Program.{Behaviour, reads, writes, marks, cut, rounds, put, by-turn, polled, pending}
 use Rattle.regs.specs.Program.{wait-on, Result, ok, err, Outcome, outcome, just, logged, PENDING}
@@ -20,7 +20,6 @@ use Rattle.regs.specs.declared.answers.Answer.{Answer}
 use Rattle.regs.specs.declared.answers.ReadStatus.{ReadStatus}
 use Rattle.regs.specs.declared.answers.ReadStatus.the-variants.{Done, NeedMoreBytes, LeftoverBytes}
 use Rattle.regs.specs.declared.answers.Refusal.{Refusal}
-use Rattle.regs.specs.declared.answers.Refusal.the-variants.{Abort}
 use Rattle.regs.specs.declared.answers.Reply.{Reply}
 use Rattle.regs.specs.declared.answers.Reply.the-variants.{LogFull, OutOfReadings}
 use Rattle.slave.specs.I2cSlave.{Driver, FIFO-SIZE, Responded-to, abort-reason, send-chunk, respond-chunk}
@@ -47,12 +46,26 @@ pub record Kept (P : Claim) : Type 0 where
       → P w [] q (logged (E.Marked PENDING) o)
   pub sent : (w v : ℕ) (c q : List ℕ) (o : Outcome SlaveState Reply) → P w c q o → P w (v ∷ c) q (logged (E.Write DATA-CMD v) o)
 
+-- how a result comes: a status with all bytes sent, LeftoverBytes of the source that was read last, an error
+pub data Came : ℕ → List ℕ → List ℕ → Result ReadStatus Refusal → Type 0 where
+  came-done : {w : ℕ} → Came w [] [] (ok Done)
+  came-more : {w : ℕ} → Came w [] [] (ok NeedMoreBytes)
+  came-leftover : {w : ℕ} {c q : List ℕ} {k : ℕ} → abort-reason w ≡ A.TxNotEmpty k → Came w c q (ok (LeftoverBytes k))
+  came-error : {w : ℕ} {c q : List ℕ} {e : Refusal} → Came w c q (err e)
+
+-- the access that clears what a result rests on, before what follows the result
+abbrev pub cleared : Result ReadStatus Refusal → Behaviour SlaveState Answer → Behaviour SlaveState Answer
+cleared (ok Done) t = reads CLR-RX-DONE (λ _. t)
+cleared (ok NeedMoreBytes) t = t
+cleared (ok (LeftoverBytes k)) t = reads CLR-INTR (λ _. t)
+cleared (err e) t = t
+
 module _ (P : Claim) (kept : Kept P) where
   -- of a behaviour, whatever room, readings, buffer and state there are
   pub record All (w : ℕ) (c q : List ℕ) (t : Behaviour SlaveState Answer) : Type 0 where
     pub holds : (room : ℕ) (rs b : List ℕ) (z : SlaveState) → P w c q (Out t room rs b z)
 
-  reads-all : {w : ℕ} {c q : List ℕ} {r : ℕ} {f : ℕ → Behaviour SlaveState Answer}
+  pub reads-all : {w : ℕ} {c q : List ℕ} {r : ℕ} {f : ℕ → Behaviour SlaveState Answer}
       → eqb r TX-ABRT-SOURCE ≡ false
       → ((v : ℕ) → All w c q (f v))
       → All w c q (reads r f)
@@ -105,13 +118,17 @@ module _ (P : Claim) (kept : Kept P) where
   unfolding outcome
   cut-all {w} {c} {q} = record { holds = λ room rs b z. kept .stopped w c q LogFull b z (inl refl) }
 
-  -- what follows `respond_to_read`: after a status that comes with all bytes sent, after LeftoverBytes and after an error
+  pub cleared-all : {w : ℕ} {c q : List ℕ} {t : Behaviour SlaveState Answer} (r : Result ReadStatus Refusal)
+      → All w c q t
+      → All w c q (cleared r t)
+  cleared-all (ok Done) h = reads-all refl (λ _. h)
+  cleared-all (ok NeedMoreBytes) h = h
+  cleared-all (ok (LeftoverBytes k)) h = reads-all refl (λ _. h)
+  cleared-all (err e) h = h
+
+  -- what follows `respond_to_read`, for each result
   module _ (n : ℕ) (K : Result ReadStatus Refusal → Behaviour SlaveState Answer)
-      (on-done : (w : ℕ) → All w [] [] (K (ok Done))) (on-more : (w : ℕ) → All w [] [] (K (ok NeedMoreBytes)))
-      (on-leftover : (w : ℕ) (c q : List ℕ) (k : ℕ)
-      → abort-reason w ≡ A.TxNotEmpty k
-      → All w c q (K (ok (LeftoverBytes k))))
-      (on-error : (w : ℕ) (c q : List ℕ) (e : Refusal) → All w c q (K (err e))) where
+      (on : (w : ℕ) (c q : List ℕ) (r : Result ReadStatus Refusal) → Came w c q r → All w c q (cleared r (K r))) where
     abbrev Back : (List ℕ → Behaviour SlaveState Answer) → Type 0
     Back t = (w : ℕ) (q : List ℕ) → All w (take FIFO-SIZE q) (drop FIFO-SIZE q) (t q)
 
@@ -131,18 +148,18 @@ module _ (P : Claim) (kept : Kept P) where
         → All w (take FIFO-SIZE q) (drop FIFO-SIZE q) (respond-chunk stat q n (after t))
     feeds w stat [] t back =
         by-test (rx-done stat)
-        (λ e. rw e (reads-all refl (λ v. on-done w)))
-        (λ e. rw e (by-test (rd-req stat && tx-empty stat) (λ e. rw e (on-more w)) (λ e. rw e (pends w [] t back))))
+        (λ e. rw e (on w [] [] _ came-done))
+        (λ e. rw e (by-test (rd-req stat && tx-empty stat) (λ e. rw e (on w [] [] _ came-more)) (λ e. rw e (pends w [] t back))))
     feeds w stat (x ∷ xs) t back = chunk w (take FIFO-SIZE (x ∷ xs)) (drop FIFO-SIZE (x ∷ xs)) _ (pends w (drop FIFO-SIZE (x ∷ xs)) t back)
 
     aborts : (w : ℕ) (c q : List ℕ) (a : AbortReason) (p : Driver Responded-to)
         (t : List ℕ → Behaviour SlaveState Answer)
         → abort-reason w ≡ a
         → All w c q (respond-abort (err a) p n (after t))
-    aborts w c q A.NoAcknowledge p t e = on-error w c q (Abort A.NoAcknowledge)
-    aborts w c q A.ArbitrationLoss p t e = on-error w c q (Abort A.ArbitrationLoss)
-    aborts w c q (A.TxNotEmpty k) p t e = reads-all refl (λ v. on-leftover w c q k e)
-    aborts w c q (A.Other u) p t e = on-error w c q (Abort (A.Other u))
+    aborts w c q A.NoAcknowledge p t e = on w c q _ came-error
+    aborts w c q A.ArbitrationLoss p t e = on w c q _ came-error
+    aborts w c q (A.TxNotEmpty k) p t e = on w c q _ (came-leftover e)
+    aborts w c q (A.Other u) p t e = on w c q _ came-error
 
     polls : (w : ℕ) (q : List ℕ) (t : List ℕ → Behaviour SlaveState Answer)
         → Back t

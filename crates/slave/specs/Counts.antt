@@ -2,10 +2,11 @@
 use Prim.Native.Nat.{ℕ, _<_}
 use mathlib.Core.List.{List, [], _∷_, _++_}
 use mathlib.Core.Path.{_≡_}
-use mathlib.Core.Logic.{_⊎_}
+use mathlib.Core.Bool.{Bool, true, false, _||_}
+use mathlib.Core.Logic.{_⊎_, _≢_}
 use lib.Dec.{eqb}
 use lib.ListN.{length, take, drop, replicate}
-use Rattle.regs.specs.Registers.{DATA-CMD, TX-ABRT-SOURCE}
+use Rattle.regs.specs.Registers.{DATA-CMD, TX-ABRT-SOURCE, CLR-RX-DONE, CLR-INTR}
 use Rattle.regs.specs.Fields.{tx-flush-cnt}
 use Rattle.regs.specs.Left.{Stored}
 use Rattle.regs.specs.Program.{if_then_else_, Outcome}
@@ -16,7 +17,7 @@ use Rattle.regs.specs.declared.answers.AbortReason.the-variants.{TxNotEmpty}
 use Rattle.regs.specs.declared.answers.Command.the-variants.{GeneralCall, Read, WriteRead, Write}
 use Rattle.regs.specs.declared.answers.ReadStatus.the-variants.{Done, NeedMoreBytes, LeftoverBytes}
 use Rattle.regs.specs.declared.answers.Answer.{Answer}
-use Rattle.regs.specs.declared.answers.Answer.the-variants.{Heard, Responded, Refused}
+use Rattle.regs.specs.declared.answers.Answer.the-variants.{Accepted, Heard, Responded, Refused}
 use Rattle.regs.specs.declared.answers.Refusal.the-variants.{PartialWrite, PartialGeneralCall, NoPlaceForPending, OverLimits}
 use Rattle.regs.specs.declared.answers.Reply.{Reply}
 use Rattle.regs.specs.declared.answers.Reply.the-variants.{Answered, OutOfReadings, LogFull}
@@ -123,6 +124,27 @@ FillsAfterBytes = (bytes : List ℕ) (fill : ℕ) (log readings : List ℕ) (me 
 abbrev pub FillsAlone : Type 0
 FillsAlone = (fill : ℕ) (log readings : List ℕ) (me : SlaveState)
     → SentFilled [] fill (expected (respond-till-stop-call fill) log readings [] me)
+
+-- the last access cleared RX_DONE or, where bytes were left over, all flags: the master has stopped
+abbrev pub ends-at-stop : List Entry → Bool
+ends-at-stop [] = false
+ends-at-stop (E.Read r v ∷ []) = eqb r CLR-RX-DONE || eqb r CLR-INTR
+ends-at-stop (E.Write r v ∷ []) = false
+ends-at-stop (E.Marked x ∷ []) = false
+ends-at-stop (e ∷ (next ∷ es)) = ends-at-stop (next ∷ es)
+
+-- a fill does not answer that more bytes are needed, nor does it end well before the master has stopped
+pub record FilledTillStop (well : Answer) (o : Outcome SlaveState Reply) : Type 0 where
+  pub never-more : o .answer ≢ Answered (Responded NeedMoreBytes)
+  pub stopped : o .answer ≡ Answered well → ends-at-stop (o .log) ≡ true
+
+abbrev pub FillsTillStop : Type 0
+FillsTillStop = (fill : ℕ) (log readings : List ℕ) (me : SlaveState)
+    → FilledTillStop Accepted (expected (respond-till-stop-call fill) log readings [] me)
+
+abbrev pub FillsUpTillStop : Type 0
+FillsUpTillStop = (bytes : List ℕ) (fill : ℕ) (log readings : List ℕ) (me : SlaveState)
+    → FilledTillStop (Responded Done) (expected (respond-and-fill-call bytes fill) log readings [] me)
 
 -- the last reading of a register, or v where there is none
 abbrev pub last-read : ℕ → ℕ → List Entry → ℕ

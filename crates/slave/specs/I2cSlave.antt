@@ -259,9 +259,13 @@ till-stop (ok (LeftoverBytes n)) = done (ok tt)
 till-stop (ok Done) = done (ok tt)
 till-stop (err e) = done (err e)
 
+-- let buff = [fill; FIFO_SIZE as usize];
+abbrev pub fill-bytes : ℕ → List ℕ
+fill-bytes fill = replicate FIFO-SIZE fill
+
 unfoldable pub respond-till-stop : ℕ → Driver (Result (Unit {0}) Refusal)
 respond-till-stop fill = loop tt (λ _. do
-  r ← respond-to-read (replicate FIFO-SIZE fill)
+  r ← respond-to-read (fill-bytes fill)
   return (till-stop r))
 
 -- ---- async fn respond_and_fill(&mut self, buffer: &[u8], fill: u8) -> Result<ReadStatus, Error>

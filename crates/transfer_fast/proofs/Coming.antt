@@ -16,7 +16,8 @@ use Rattle.transfer.specs.declared.Step.the-variants.{Go}
 use Rattle.regs_runs.specs.inner.Reaches.{Reaches}
 use Rattle.regs_runs.proofs.Reach.{stays, then}
 use Rattle.transfer_fast_blocking.specs.inner.Bursts.{Bursts}
-use Rattle.transfer_fast_async.specs.inner.Rounds.{Rounds, Fills}
+use Rattle.transfer_fast_read_async.specs.inner.Rounds.{Rounds}
+use Rattle.transfer_fast_write_async.specs.inner.Fills.{Fills}
 use Rattle.transfer_fast_polls.specs.inner.Stays.{Stays}
 use Rattle.transfer_fast.specs.inner.GoesAhead.{GoesAhead}
 use Rattle.transfer_fast.specs.declared.Ahead.{Ahead}

@@ -117,7 +117,7 @@ fn rounds_from(
         (λ (bytes : List ℕ). GoesAhead bytes (now (readings .entry)) (now (log .entry)) (now (buffer .entry))
         (now (log .exit)) (now (buffer .exit)) t used entries r) ⌝ }
 {
-    let c = transfer_fast_async::read_async::burst(
+    let c = transfer_fast_read_async::burst(
         round.remaining,
         round.queue,
         round.batch,
@@ -159,7 +159,7 @@ fn fills_from(
         (λ (buffer : List ℕ). GoesAhead (now (bytes .entry)) (now (readings .entry)) (now (log .entry)) buffer
         (now (log .exit)) buffer t used entries r) ⌝ }
 {
-    let b = transfer_fast_async::write_async::burst(
+    let b = transfer_fast_write_async::burst(
         i,
         t.len,
         t.at,

@@ -1,12 +1,15 @@
 // Bursts of a transfer: the accesses of whole bytes in one loop, where the readings lead straight on.
 // Each takes the place of the machine's steps between two points; what is off that way, and the end of
-// an operation, is left to the machine. The rounds of the async operations are in `transfer_fast_async`.
+// an operation, is left to the machine. The rounds of the async operations are in
+// `transfer_fast_read_async` and `transfer_fast_write_async`.
 pub mod read_blocking; // byte after byte
 pub mod write_blocking; // byte after byte
 
+use regs::fields::level_of;
 ghost use mathlib.Core.Bool.{true};
 ghost use mathlib.Core.Path.{_≡_};
-ghost use Prim.Native.Nat.{_+_, _<_, _≤_};
+ghost use Prim.Native.Nat.{_+_, _-_, _<_, _≤_};
+ghost use Rattle.regs.specs.Fields.{level};
 
 // How far a burst came: the byte that is next, the readings used and the entries in the log.
 pub struct Burst {
@@ -29,6 +32,14 @@ pub fn is_within(i: u16, len: u16, at: usize, length: usize, used: usize, count:
         return false;
     }
     len as usize <= length - at
+}
+
+// The places of the transmit FIFO that are free by TXFLR: a round of an async operation fills them.
+pub fn free(v: u32) -> u16
+    ensures { λ r. ⌜ r ≡ 16 - level v ⌝ }
+{
+    let n = level_of(v);
+    if n < 16 { (16 - n) as u16 } else { 0 }
 }
 
 // How many bytes may go straight: before the last one, and as many as there are entries and readings for.

@@ -1,5 +1,5 @@
 -- `clock::high_of` meets its contract.
-use Rattle.clock.specs.SetConfig.{hcnt-of}
+use Rattle.clock_setting.specs.SetConfig.{hcnt-of}
 use borrow.Author.Needs.{needs}
 use Rattle.clock.proofs.high_of.Statement.{statement}
 use Rattle.clock.proofs.high_of.Tie as tie

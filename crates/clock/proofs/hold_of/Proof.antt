@@ -1,7 +1,7 @@
 -- `clock::hold_of` meets its contract.
 use native.Mathlib.Omega.{arith}
-use Rattle.clock.specs.Datasheet.{hold}
-use Rattle.clock.specs.SetConfig.{hold-below-1-mhz, hold-at-1-mhz}
+use Rattle.clock_setting.specs.Datasheet.{hold}
+use Rattle.clock_setting.specs.SetConfig.{hold-below-1-mhz, hold-at-1-mhz}
 use borrow.Author.Tests.{le-ltb, lt-ltb}
 use borrow.Author.Needs.{needs}
 use Rattle.clock.proofs.hold_of.Statement.{statement}

@@ -1,7 +1,7 @@
 -- `clock::low_of` meets its contract.
 use mathlib.Core.Path.{refl}
 use native.Mathlib.Omega.{arith}
-use Rattle.clock.specs.SetConfig.{lcnt-of}
+use Rattle.clock_setting.specs.SetConfig.{lcnt-of}
 use borrow.Author.Needs.{needs}
 use Rattle.clock.proofs.low_of.Statement.{statement}
 use Rattle.clock.proofs.low_of.Tie as tie

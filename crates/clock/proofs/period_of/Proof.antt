@@ -1,6 +1,6 @@
 -- `clock::period_of` meets its contract.
-use Rattle.clock.specs.SetConfig.{period}
-use Rattle.clock.proofs.Counted.{period-fits}
+use Rattle.clock_setting.specs.SetConfig.{period}
+use Rattle.clock_setting.proofs.Counted.{period-fits}
 use mathlib.Core.Path.{refl}
 use borrow.Author.Needs.{needs}
 use Rattle.clock.proofs.period_of.Statement.{statement}

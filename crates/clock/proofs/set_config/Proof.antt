@@ -1,7 +1,7 @@
 -- `clock::set_config` meets its contract.
 use Rattle.clock.proofs.Agrees.{set-config-agrees}
 use Rattle.clock.specs.inner.Machine.{machine}
-use Rattle.clock.specs.SetConfig.{set-config}
+use Rattle.clock_setting.specs.SetConfig.{set-config}
 use Rattle.regs.proofs.Refine.{leaves}
 use denote.Ref.{now}
 use mathlib.Core.List.{[]}

@@ -1,7 +1,7 @@
 -- `clock::spklen_of` meets its contract.
 use Prim.Native.Nat.{_/_, _^_}
 use lib.Bits.{and-mask}
-use Rattle.clock.specs.SetConfig.{spklen}
+use Rattle.clock_setting.specs.SetConfig.{spklen}
 use borrow.Author.Tests.{le-ltb, lt-ltb}
 use Rattle.clock.proofs.spklen_of.Statement.{statement}
 use Rattle.clock.proofs.spklen_of.Tie as tie

@@ -10,8 +10,8 @@ use Rattle.regs.specs.declared.answers.Refusal.the-variants as R
 use Rattle.regs.specs.declared.access.Next.{Next}
 use Rattle.regs.specs.declared.access.Next.the-variants as N
 use Rattle.regs.specs.declared.access.Store.the-variants.{Nothing}
-use Rattle.clock.specs.SetConfig.{spklen}
-use Rattle.clock.specs.Datasheet.{hcnt, lcnt, hold}
+use Rattle.clock_setting.specs.SetConfig.{spklen}
+use Rattle.clock_setting.specs.Datasheet.{hcnt, lcnt, hold}
 use Rattle.clock.specs.declared.Counts.{Counts}
 use Rattle.clock.specs.declared.Setting.{Setting}
 use Rattle.clock.specs.declared.Setting.the-variants.{Legal, Illegal}

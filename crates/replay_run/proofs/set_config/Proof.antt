@@ -1,7 +1,7 @@
 -- `replay_run::set_config` meets its contract.
 use mathlib.Core.Bool.{false}
-use Rattle.clock.specs.SetConfig.{set-config}
-use Rattle.clock.proofs.Accesses.{every-access-legal}
+use Rattle.clock_setting.specs.SetConfig.{set-config}
+use Rattle.clock_setting.proofs.Accesses.{every-access-legal}
 use Rattle.replay_calls.proofs.Prints.{room, prints-none}
 use native.Mathlib.Omega.{arith}
 use borrow.Author.Needs.{needs}

@@ -29,7 +29,7 @@ returns c =
 returns-2 : tie.Need-returns-2
 returns-2 c =
     let at-t = c .before .before .before in
-    rw (at-t .t .given .1, ← c .before .written2 .ensures) (c .go-on .ensures)
+    rw (at-t .t .given .1) (rw (c .before .written2 .ensures) at (c .go-on .ensures))
 
 pub after-spec : {M : Type 1} → statement M
 after-spec =

@@ -25,8 +25,7 @@ returns c =
     let at-char2 = at-push2 .before in
     let at-push = at-char2 .before .before .before .before in
     let at-char = at-push .before in
-    rw (← at-char .char .ensures, ← at-char2 .char2 .ensures)
-    (then (at-push .push .ensures) (at-push2 .push2 .ensures))
+    then (rw (at-char .char .ensures) at (at-push .push .ensures)) (rw (at-char2 .char2 .ensures) at (at-push2 .push2 .ensures))
 
 pub push2-spec : {M : Type 1} → statement M
 push2-spec =

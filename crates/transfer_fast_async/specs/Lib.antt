@@ -1,2 +1,0 @@
--- What a round is. Only contracts of inner functions cite this: no public call rests on believing it.
-pub mod inner

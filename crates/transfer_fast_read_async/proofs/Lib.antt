@@ -1,0 +1,5 @@
+-- Rounds of an async read, step by step.
+pub mod Chosen
+pub mod Queueing
+pub mod Fetching
+pub mod Rounds
