@@ -11,77 +11,9 @@
  * call are what the last reset was given.
  *
  * Prints one line for each expectation that fails. Status 1 if any did, else 0. */
-#include "celadonsaw.h"
-#include <stdio.h>
-#include <string.h>
+#include "expect.h"
 
-enum { LOG_WORDS = 128, BUFFER_BYTES = 24, UNREAD = 0xEE };
-#define UNWRITTEN 0xEEEEEEEEu
-
-static const char *name; /* of the call at hand */
-static int failures;
-static uint32_t log_words[LOG_WORDS];
-static uint8_t buffer[BUFFER_BYTES];
-/* A pointer is not null, also where the length is 0. */
-static const struct {
-    uint8_t bytes[1];
-    uint16_t lengths[1];
-    uint32_t words[1];
-} nothing;
-
-/* A list and its length, as two arguments. */
-#define LIST(type, ...) (const type[]){__VA_ARGS__}, sizeof(const type[]){__VA_ARGS__} / sizeof(type)
-#define BYTES(...) LIST(uint8_t, __VA_ARGS__)
-#define LENGTHS(...) LIST(uint16_t, __VA_ARGS__)
-#define READINGS(...) LIST(uint32_t, __VA_ARGS__, 0xBAD, 0xBAD, 0xBAD)
-#define LOGGED(...) LIST(uint32_t, __VA_ARGS__)
-#define NO_BYTES nothing.bytes, 0
-#define NO_LENGTHS nothing.lengths, 0
-#define NOTHING_LOGGED nothing.words, 0
-#define LOG log_words, LOG_WORDS
-
-/* The two words of a log's entry. */
-#define R(offset, value) 0x100 + (offset), value
-#define W(offset, value) 0x200 + (offset), value
-#define PENDING 0x300, 0
-#define BLOCK_RESET 0x301, 0
-#define SETUP(address) W(0x6C, 0), W(0x04, address), W(0x6C, 1)
-
-static void expect(const char *what, uint64_t found, uint64_t expected) {
-    if (found != expected) {
-        printf("%s: %s is %llX, not %llX\n", name, what, (unsigned long long)found, (unsigned long long)expected);
-        failures++;
-    }
-}
-
-static void expect_at(const char *what, size_t index, uint64_t found, uint64_t expected) {
-    char place[48];
-    snprintf(place, sizeof place, "%s %zu", what, index);
-    expect(place, found, expected);
-}
-
-static void begin(const char *call) {
-    name = call;
-    memset(buffer, UNREAD, sizeof buffer);
-    for (size_t i = 0; i < LOG_WORDS; i++)
-        log_words[i] = UNWRITTEN;
-}
-
-static void expect_buffer(const uint8_t *bytes, size_t count) {
-    for (size_t i = 0; i < BUFFER_BYTES; i++)
-        expect_at("byte", i, buffer[i], i < count ? bytes[i] : UNREAD);
-}
-
-static void expect_report(celadonsaw_report report, uint8_t number, uint32_t detail, size_t entries, size_t used,
-    const uint32_t *words, size_t count, const uint8_t *bytes, size_t bytes_len) {
-    expect("number", report.number, number);
-    expect("detail", report.detail, detail);
-    expect("entries", report.entries, entries);
-    expect("used", report.used, used);
-    for (size_t i = 0; i < LOG_WORDS; i++)
-        expect_at("log word", i, log_words[i], i < count ? words[i] : UNWRITTEN);
-    expect_buffer(bytes, bytes_len);
-}
+#define STEPS(...) steps(false, __VA_ARGS__)
 
 static celadonsaw_slave slave(bool has_pending, uint8_t pending_byte, uint16_t address, bool general_call) {
     celadonsaw_slave state = {
@@ -98,51 +30,8 @@ static void expect_slave(celadonsaw_slave_report left, celadonsaw_slave state, u
     expect_report(left.report, number, detail, entries, used, words, count, bytes, bytes_len);
 }
 
-/* A call; then number, detail, entries, used, the log and the bytes read that it is to leave. */
-#define CALL(call_name, call, ...) (begin(call_name), expect_report(call, __VA_ARGS__))
 /* A call of the slave; then its state, and the same. */
 #define SLAVE(call_name, call, ...) (begin(call_name), expect_slave(call, __VA_ARGS__))
-
-static void expect_access(
-    size_t index, celadonsaw_access access, uint8_t kind, uint8_t reg, uint8_t number, uint32_t value) {
-    expect_at("kind of access", index, access.kind, kind);
-    expect_at("register of access", index, access.reg, reg);
-    expect_at("number of access", index, access.number, number);
-    expect_at("value of access", index, access.value, value);
-}
-
-/* A transfer by steps, which makes the accesses of a log and ends with number and detail: once by `step`, once by
- * `advance` and `next_access`. After the end nothing changes. */
-static void steps(const char *call, uint8_t form, uint16_t address, const uint8_t *kinds, size_t kinds_len,
-    const uint16_t *lengths, size_t lengths_len, const uint8_t *write, size_t write_len, size_t read_len,
-    uint8_t number, uint32_t detail, const uint32_t *words, size_t count, const uint8_t *bytes, size_t bytes_len) {
-    for (int in_one = 0; in_one < 2; in_one++) {
-        begin(call);
-        celadonsaw_transfer transfer;
-        memset(&transfer, UNREAD, sizeof transfer);
-        celadonsaw_start(&transfer, form, address, kinds, kinds_len, lengths, lengths_len, write_len, read_len);
-        celadonsaw_access access = celadonsaw_next_access(&transfer, write, write_len);
-        for (size_t i = 0; i < count / 2 + 2; i++) {
-            uint32_t reading = 0xBAD;
-            if (i < count / 2) {
-                uint8_t kind = (uint8_t)(words[2 * i] >> 8);
-                uint32_t value = words[2 * i + 1];
-                expect_access(i, access, kind, (uint8_t)words[2 * i], 0, kind == 2 ? value : 0);
-                reading = kind == 1 ? value : 0;
-            } else {
-                expect_access(i, access, 0, 0, number, detail);
-            }
-            if (in_one) {
-                access = celadonsaw_step(&transfer, reading, kinds, kinds_len, lengths, lengths_len, write, write_len,
-                    buffer, read_len);
-            } else {
-                celadonsaw_advance(&transfer, reading, kinds, kinds_len, lengths, lengths_len, buffer, read_len);
-                access = celadonsaw_next_access(&transfer, write, write_len);
-            }
-        }
-        expect_buffer(bytes, bytes_len);
-    }
-}
 
 static void clock_calls(void) {
     CALL("set_config, line 93", celadonsaw_set_config(100000, 125000000, READINGS(0xFFFFFFFF), LOG), 0, 0, 7, 1,
@@ -299,45 +188,45 @@ static void slave_calls(void) {
 
 /* All eight forms; the lengths of the buffers differ, so that each is held to its own. Then what is 20. */
 static void step_calls(void) {
-    steps("steps, line 4105", CELADONSAW_BLOCKING_READ, 0x42, BYTES(0), LENGTHS(20), NO_BYTES, 20,
+    STEPS("steps, line 4105", CELADONSAW_BLOCKING_READ, 0x42, BYTES(0), LENGTHS(20), NO_BYTES, 20,
         12, 18, LOG_OF_LINE_4105, BYTES(0xA1));
-    steps("steps, refused write of the manual", CELADONSAW_BLOCKING_WRITE, 0x50, BYTES(1), LENGTHS(1), BYTES(0x5A), 0,
+    STEPS("steps, refused write of the manual", CELADONSAW_BLOCKING_WRITE, 0x50, BYTES(1), LENGTHS(1), BYTES(0x5A), 0,
         11, 8, LOG_OF_A_REFUSED_WRITE, NO_BYTES);
-    steps("steps, line 1155", CELADONSAW_BLOCKING_WRITE_READ, 0x42, BYTES(1, 0), LENGTHS(1, 2), BYTES(0x11), 2,
+    STEPS("steps, line 1155", CELADONSAW_BLOCKING_WRITE_READ, 0x42, BYTES(1, 0), LENGTHS(1, 2), BYTES(0x11), 2,
         0, 0, LOG_OF_LINE_1155, BYTES(0xA1, 0xA2));
-    steps("steps, line 5013", CELADONSAW_TRANSACTION, 0x42, BYTES(1, 0, 1, 0), LENGTHS(2, 1, 1, 3),
+    STEPS("steps, line 5013", CELADONSAW_TRANSACTION, 0x42, BYTES(1, 0, 1, 0), LENGTHS(2, 1, 1, 3),
         BYTES(0x11, 0x12, 0x13), 4, 0, 0, LOG_OF_LINE_5013, BYTES(0xA1, 0xA2, 0xA3, 0xA4));
-    steps("steps, async read of the manual", CELADONSAW_READ_ASYNC, 0x50, BYTES(0), LENGTHS(2), NO_BYTES, 2,
+    STEPS("steps, async read of the manual", CELADONSAW_READ_ASYNC, 0x50, BYTES(0), LENGTHS(2), NO_BYTES, 2,
         0, 0, LOG_OF_AN_ASYNC_READ, BYTES(0xA1, 0xA2));
-    steps("steps, line 3794", CELADONSAW_WRITE_ASYNC, 0x42, BYTES(1), LENGTHS(2), BYTES(0x11, 0x12), 0,
+    STEPS("steps, line 3794", CELADONSAW_WRITE_ASYNC, 0x42, BYTES(1), LENGTHS(2), BYTES(0x11, 0x12), 0,
         10, 0, LOG_OF_LINE_3794, NO_BYTES);
-    steps("steps, line 2458", CELADONSAW_WRITE_READ_ASYNC, 0x42, BYTES(1, 0), LENGTHS(1, 2), BYTES(0x11), 2,
+    STEPS("steps, line 2458", CELADONSAW_WRITE_READ_ASYNC, 0x42, BYTES(1, 0), LENGTHS(1, 2), BYTES(0x11), 2,
         0, 0, LOG_OF_LINE_2458, BYTES(0xA1, 0xA2));
-    steps("steps, line 5145", CELADONSAW_TRANSACTION_ASYNC, 0x42, BYTES(1, 0, 1, 0), LENGTHS(2, 1, 1, 3),
+    STEPS("steps, line 5145", CELADONSAW_TRANSACTION_ASYNC, 0x42, BYTES(1, 0, 1, 0), LENGTHS(2, 1, 1, 3),
         BYTES(0x11, 0x12, 0x13), 4, 0, 0, LOG_OF_LINE_5145, BYTES(0xA1, 0xA2, 0xA3, 0xA4));
-    steps("steps, line 2847", CELADONSAW_BLOCKING_READ, 0xFFFF, BYTES(0), LENGTHS(1), NO_BYTES, 1,
+    STEPS("steps, line 2847", CELADONSAW_BLOCKING_READ, 0xFFFF, BYTES(0), LENGTHS(1), NO_BYTES, 1,
         6, 0xFFFF, NOTHING_LOGGED, NO_BYTES);
-    steps("steps, lengths of other buffers", CELADONSAW_WRITE_READ_ASYNC, 0x42, BYTES(1, 0), LENGTHS(2, 1),
+    STEPS("steps, lengths of other buffers", CELADONSAW_WRITE_READ_ASYNC, 0x42, BYTES(1, 0), LENGTHS(2, 1),
         BYTES(0x11), 2, 20, 0, NOTHING_LOGGED, NO_BYTES);
-    steps("steps, a length without a kind", CELADONSAW_BLOCKING_READ, 0x42, BYTES(0), LENGTHS(2, 0), NO_BYTES, 2,
+    STEPS("steps, a length without a kind", CELADONSAW_BLOCKING_READ, 0x42, BYTES(0), LENGTHS(2, 0), NO_BYTES, 2,
         20, 0, NOTHING_LOGGED, NO_BYTES);
-    steps("steps, form 8", 8, 0x42, BYTES(0), LENGTHS(1), NO_BYTES, 1, 20, 0, NOTHING_LOGGED, NO_BYTES);
-    steps("steps, form 255", 255, 0x42, BYTES(1, 0), LENGTHS(1, 1), BYTES(0x11), 1, 20, 0, NOTHING_LOGGED, NO_BYTES);
+    STEPS("steps, form 8", 8, 0x42, BYTES(0), LENGTHS(1), NO_BYTES, 1, 20, 0, NOTHING_LOGGED, NO_BYTES);
+    STEPS("steps, form 255", 255, 0x42, BYTES(1, 0), LENGTHS(1, 1), BYTES(0x11), 1, 20, 0, NOTHING_LOGGED, NO_BYTES);
     for (uint8_t form = 0; form < 8; form++) {
         if (form % 4 < 2) {
-            steps("steps, two reads", form, 0x42, BYTES(0, 0), LENGTHS(1, 1), NO_BYTES, 2,
+            STEPS("steps, two reads", form, 0x42, BYTES(0, 0), LENGTHS(1, 1), NO_BYTES, 2,
                 20, 0, NOTHING_LOGGED, NO_BYTES);
-            steps("steps, no operations", form, 0x42, NO_BYTES, NO_LENGTHS, NO_BYTES, 0,
+            STEPS("steps, no operations", form, 0x42, NO_BYTES, NO_LENGTHS, NO_BYTES, 0,
                 20, 0, NOTHING_LOGGED, NO_BYTES);
         }
         if (form % 4 == 0 || form % 4 == 2)
-            steps("steps, a write in a read's or a write-read's form", form, 0x42, BYTES(1), LENGTHS(1), BYTES(0x11), 0,
+            STEPS("steps, a write in a read's or a write-read's form", form, 0x42, BYTES(1), LENGTHS(1), BYTES(0x11), 0,
                 20, 0, NOTHING_LOGGED, NO_BYTES);
         if (form % 4 == 1 || form % 4 == 2)
-            steps("steps, a read in a write's or a write-read's form", form, 0x42, BYTES(0), LENGTHS(1), NO_BYTES, 1,
+            STEPS("steps, a read in a write's or a write-read's form", form, 0x42, BYTES(0), LENGTHS(1), NO_BYTES, 1,
                 20, 0, NOTHING_LOGGED, NO_BYTES);
         if (form % 4 == 2)
-            steps("steps, a read before the write", form, 0x42, BYTES(0, 1), LENGTHS(1, 1), BYTES(0x11), 1,
+            STEPS("steps, a read before the write", form, 0x42, BYTES(0, 1), LENGTHS(1, 1), BYTES(0x11), 1,
                 20, 0, NOTHING_LOGGED, NO_BYTES);
     }
 }

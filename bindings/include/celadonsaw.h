@@ -25,7 +25,7 @@ extern "C" {
 /* What a call answers. number 0: accepted. Otherwise the call was turned down:
  *  1 frequency above 1,000,000        2 frequency 0                    3 clock above 1,431,655,765
  *  4 a count above 65,535             5 a count too small              6 master address above 0x7F (detail: the address)
- *  7 empty read                       8 empty blocking write           9 not acknowledged
+ *  7 empty read                       8 empty write (async: coded)     9 not acknowledged
  * 10 arbitration lost                11 other abort (detail: the raw word)
  * 12 TXFLR above 16 (the level)      13 empty response
  * 14 listen buffer full, 15 the same with a general call (detail: the length)
@@ -33,6 +33,7 @@ extern "C" {
  * 18 a read is next, readings used up                                19 an access or mark is next, log full
  * 20 over the limits, lengths that do not add up to the buffers, a kind that is neither 0 nor 1; with steps, a form above 7 or
  *    kinds that are not those of the form
+ * 22 the packet error code that was fetched is wrong
  * 1, 2, 3, 6, 13, 16, 17 and 20 make no access; 4 and 5 none but ENABLE 0. Bytes not yet read stay as they are.
  * detail of an accepted call: see the slave's calls; 0 of all others. */
 typedef struct {
@@ -46,7 +47,8 @@ typedef struct {
 celadonsaw_report celadonsaw_set_config(uint32_t frequency, uint32_t clk,
     const uint32_t *readings, size_t readings_len, uint32_t *log, size_t log_len);
 
-/* ---- the master's transfers: refusals among 6 to 12 and 18 to 20; docs/MANUAL.md has those of each call ---- */
+/* ---- the master's transfers: refusals among 6 to 12 and 18 to 20 (8 of an async write only where it is coded, see below);
+ *      docs/MANUAL.md has those of each call ---- */
 
 /* Reads into the buffer. Blocking, and by polls. An empty buffer is 7, after the address is set up. */
 celadonsaw_report celadonsaw_blocking_read(uint16_t address, uint8_t *read, size_t read_len,
@@ -76,6 +78,37 @@ celadonsaw_report celadonsaw_transaction(uint16_t address, const uint8_t *kinds,
 celadonsaw_report celadonsaw_transaction_async(uint16_t address, const uint8_t *kinds, size_t kinds_len,
     const uint16_t *lengths, size_t lengths_len, const uint8_t *write, size_t write_len, uint8_t *read, size_t read_len,
     const uint32_t *readings, size_t readings_len, uint32_t *log, size_t log_len);
+
+/* ---- the same with a packet error code (SMBus) ----
+ *
+ * A CRC-8 (polynomial 0x07, start 0) over every byte of the message, address bytes included, those after a RESTART too. A
+ * transfer that ends in a write sends it as its last byte; one that ends in a read fetches one byte more and tests it: 22 where
+ * it is wrong, after all aborts, and the bytes read stay. The other refusals are those of the plain calls, but that an empty
+ * write is 8 in both modes. The code is neither in the buffers nor in their lengths nor in the 4,096. Without operations there
+ * is no code. */
+celadonsaw_report celadonsaw_blocking_read_pec(uint16_t address, uint8_t *read, size_t read_len,
+    const uint32_t *readings, size_t readings_len, uint32_t *log, size_t log_len);
+celadonsaw_report celadonsaw_read_async_pec(uint16_t address, uint8_t *read, size_t read_len,
+    const uint32_t *readings, size_t readings_len, uint32_t *log, size_t log_len);
+celadonsaw_report celadonsaw_blocking_write_pec(uint16_t address, const uint8_t *write, size_t write_len,
+    const uint32_t *readings, size_t readings_len, uint32_t *log, size_t log_len);
+celadonsaw_report celadonsaw_write_async_pec(uint16_t address, const uint8_t *write, size_t write_len,
+    const uint32_t *readings, size_t readings_len, uint32_t *log, size_t log_len);
+celadonsaw_report celadonsaw_blocking_write_read_pec(uint16_t address, const uint8_t *write, size_t write_len,
+    uint8_t *read, size_t read_len,
+    const uint32_t *readings, size_t readings_len, uint32_t *log, size_t log_len);
+celadonsaw_report celadonsaw_write_read_async_pec(uint16_t address, const uint8_t *write, size_t write_len,
+    uint8_t *read, size_t read_len,
+    const uint32_t *readings, size_t readings_len, uint32_t *log, size_t log_len);
+celadonsaw_report celadonsaw_transaction_pec(uint16_t address, const uint8_t *kinds, size_t kinds_len,
+    const uint16_t *lengths, size_t lengths_len, const uint8_t *write, size_t write_len, uint8_t *read, size_t read_len,
+    const uint32_t *readings, size_t readings_len, uint32_t *log, size_t log_len);
+celadonsaw_report celadonsaw_transaction_async_pec(uint16_t address, const uint8_t *kinds, size_t kinds_len,
+    const uint16_t *lengths, size_t lengths_len, const uint8_t *write, size_t write_len, uint8_t *read, size_t read_len,
+    const uint32_t *readings, size_t readings_len, uint32_t *log, size_t log_len);
+
+/* That CRC-8 over bytes, from a start value: 0, or what the bytes before them left. Over a message with its right code it is 0. */
+uint8_t celadonsaw_crc8(uint8_t start, const uint8_t *bytes, size_t bytes_len);
 
 /* ---- the slave's calls: refusals among 9 to 11 and 13 to 20; docs/MANUAL.md has those of each call ---- */
 
@@ -169,6 +202,27 @@ void celadonsaw_advance(celadonsaw_transfer *transfer, uint32_t value, const uin
 /* Both in one call: goes on, and tells the access that is next. */
 celadonsaw_access celadonsaw_step(celadonsaw_transfer *transfer, uint32_t value, const uint8_t *kinds, size_t kinds_len,
     const uint16_t *lengths, size_t lengths_len, const uint8_t *write, size_t write_len, uint8_t *read, size_t read_len);
+
+/* ---- the same with a packet error code ----
+ *
+ * Beside the transfer the caller keeps its code so far: `celadonsaw_start_pec` sets it, and nobody looks inside. Kinds, lengths
+ * and buffers are those of the data, and forms those above. `celadonsaw_advance_pec` also takes the write buffer, since the byte
+ * that was sent goes into the code. At the end number 22 may be told. A transfer goes by these four functions or by the four
+ * above, not by both. */
+typedef struct {
+    uint8_t bytes[2];
+} celadonsaw_code;
+
+void celadonsaw_start_pec(celadonsaw_transfer *transfer, celadonsaw_code *code, uint8_t form, uint16_t address,
+    const uint8_t *kinds, size_t kinds_len, const uint16_t *lengths, size_t lengths_len, size_t write_len, size_t read_len);
+celadonsaw_access celadonsaw_next_access_pec(const celadonsaw_transfer *transfer, const celadonsaw_code *code,
+    const uint8_t *write, size_t write_len);
+void celadonsaw_advance_pec(celadonsaw_transfer *transfer, celadonsaw_code *code, uint32_t value,
+    const uint8_t *kinds, size_t kinds_len, const uint16_t *lengths, size_t lengths_len,
+    const uint8_t *write, size_t write_len, uint8_t *read, size_t read_len);
+celadonsaw_access celadonsaw_step_pec(celadonsaw_transfer *transfer, celadonsaw_code *code, uint32_t value,
+    const uint8_t *kinds, size_t kinds_len, const uint16_t *lengths, size_t lengths_len,
+    const uint8_t *write, size_t write_len, uint8_t *read, size_t read_len);
 
 #ifdef __cplusplus
 }

@@ -10,7 +10,7 @@ pub enum Kind {
         frequency: u32,
         clock: u32,
     },
-    /// Forms 0 to 3 block, 4 to 7 are async: read, write, write-read, transaction.
+    /// Bits 0 and 1 of the form: read, write, write-read, transaction; bit 2: async; bit 3: packet error code.
     Master {
         form: u8,
         address: u16,

@@ -9,6 +9,7 @@ use embedded_hal_1::i2c::Operation as HalOperation;
 
 use crate::bus::{self, Chooser, Ended};
 use crate::call::{Answer, Call, Kind, Operation};
+use crate::coded::{self, Instead};
 use crate::chip::Peri;
 use crate::chip::interrupt::typelevel::{Binding, I2C0_IRQ, I2C1_IRQ};
 use crate::chip::peripherals::{I2C0, I2C1, PIN_0, PIN_1, PIN_2, PIN_3};
@@ -56,13 +57,52 @@ impl Drivers {
         Drivers { blocking, queued, slave, buffer: Vec::new() }
     }
 
-    /// Runs the call over its readings, then over those of `chooser`.
+    /// Runs the call over its readings, then over those of `chooser`. The limits are those of the data alone.
     pub fn run(&mut self, call: &Call, chooser: Option<Box<dyn Chooser>>) -> Answer {
-        self.buffer.clear();
-        if !call.is_beyond_limits() {
-            self.buffer.resize(call.read_length(), 0);
+        if call.is_beyond_limits() {
+            self.buffer.clear();
+            return self.ended(call, chooser, |_| Answer::refused(20));
         }
-        let ended = bus::run(&call.readings, chooser, || self.answer(call));
+        match coded::instead(call) {
+            None => self.run_within(call, chooser),
+            Some(Instead::Plain(plain)) => self.run_within(&plain, chooser),
+            Some(Instead::EmptyWrite(plain)) => match self.run_within(&plain, chooser) {
+                Answer { number: 7, .. } => Answer::refused(8),
+                answer => answer,
+            },
+            Some(Instead::Longer(longer)) => self.run_longer(call, longer, chooser),
+        }
+    }
+
+    /// The code that is sent is known only after the bytes before it were read: so there are two runs, the second with it.
+    fn run_longer(&mut self, call: &Call, mut longer: Call, chooser: Option<Box<dyn Chooser>>) -> Answer {
+        let answer = self.run_within(&longer, chooser);
+        if let Some(Operation::Write(_)) = call.operations.last() {
+            longer.bytes.pop();
+            longer.bytes.push(coded::code(call, &self.buffer));
+            longer.readings = bus::with_record(|_, readings| readings.to_vec());
+            return self.run_within(&longer, None);
+        }
+        let came = self.buffer.pop();
+        if answer == Answer::ACCEPTED && came != Some(coded::code(call, &self.buffer)) {
+            return Answer::refused(22);
+        }
+        answer
+    }
+
+    fn run_within(&mut self, call: &Call, chooser: Option<Box<dyn Chooser>>) -> Answer {
+        self.buffer.clear();
+        self.buffer.resize(call.read_length(), 0);
+        self.ended(call, chooser, |drivers| drivers.answer(call))
+    }
+
+    fn ended(
+        &mut self,
+        call: &Call,
+        chooser: Option<Box<dyn Chooser>>,
+        run: impl FnOnce(&mut Self) -> Answer,
+    ) -> Answer {
+        let ended = bus::run(&call.readings, chooser, || run(self));
         ended.unwrap_or_else(|ended| match ended {
             Ended::ReadingsUsedUp => Answer::refused(18),
             Ended::LogFull => Answer::refused(19),
@@ -76,9 +116,6 @@ impl Drivers {
     }
 
     fn answer(&mut self, call: &Call) -> Answer {
-        if call.is_beyond_limits() {
-            return Answer::refused(20);
-        }
         match call.kind {
             Kind::Clock { frequency, clock } => self.set_config(frequency, clock),
             Kind::Master { form, address } if form < 4 => self.transfer_blocking(form, address, call),

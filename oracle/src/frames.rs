@@ -78,7 +78,7 @@ fn call_frame(code: &[u8], rest: &[u8], call: &mut Call) -> Option<Kind> {
         b"02" if rest.len() == 6 => {
             let form = hex::number(&rest[..2])? as u8;
             let address = hex::number(&rest[2..])? as u16;
-            (form < 8).then_some(Kind::Master { form, address })
+            (form < 16).then_some(Kind::Master { form, address })
         }
         b"03" => slave_frame(rest, call),
         _ => None,

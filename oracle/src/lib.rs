@@ -12,6 +12,7 @@ mod macros;
 pub mod bus;
 pub mod call;
 mod chip;
+mod coded;
 pub mod damage;
 pub mod drivers;
 mod frames;

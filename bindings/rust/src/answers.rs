@@ -23,6 +23,7 @@ pub enum Refusal {
     OutOfReadings,
     LogFull,
     OverLimits,
+    WrongPacketErrorCode,
 }
 
 /// What a slave that listens received.
@@ -66,6 +67,7 @@ impl Refusal {
             Refusal::OutOfReadings => (18, 0),
             Refusal::LogFull => (19, 0),
             Refusal::OverLimits => (20, 0),
+            Refusal::WrongPacketErrorCode => (22, 0),
         }
     }
 
@@ -92,6 +94,7 @@ impl Refusal {
             18 => Refusal::OutOfReadings,
             19 => Refusal::LogFull,
             20 => Refusal::OverLimits,
+            22 => Refusal::WrongPacketErrorCode,
             _ => unreachable!("number {number}"),
         }
     }

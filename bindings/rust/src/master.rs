@@ -1,4 +1,5 @@
 //! Clock setup and the eight transfers of the master, in the original driver's names. Each `_async` form goes by polls.
+//! Beside each stands a `_pec` form with a packet error code (SMBus), which is neither in the buffers nor in their lengths.
 use crate::{raw, Left};
 
 fn done(report: raw::Report) -> Left<()> {
@@ -57,4 +58,78 @@ pub fn transaction_async(
     log: &mut [u32],
 ) -> Left<()> {
     done(raw::transaction_async(address, kinds, lengths, write, read, readings, log))
+}
+
+/// As [`blocking_read`], with a packet error code; [`crate::Refusal::WrongPacketErrorCode`] where it is wrong.
+pub fn blocking_read_pec(address: u16, read: &mut [u8], readings: &[u32], log: &mut [u32]) -> Left<()> {
+    done(raw::blocking_read_pec(address, read, readings, log))
+}
+
+/// As [`read_async`], with a packet error code; [`crate::Refusal::WrongPacketErrorCode`] where it is wrong.
+pub fn read_async_pec(address: u16, read: &mut [u8], readings: &[u32], log: &mut [u32]) -> Left<()> {
+    done(raw::read_async_pec(address, read, readings, log))
+}
+
+/// As [`blocking_write`], with a packet error code.
+pub fn blocking_write_pec(address: u16, write: &[u8], readings: &[u32], log: &mut [u32]) -> Left<()> {
+    done(raw::blocking_write_pec(address, write, readings, log))
+}
+
+/// As [`write_async`], with a packet error code.
+pub fn write_async_pec(address: u16, write: &[u8], readings: &[u32], log: &mut [u32]) -> Left<()> {
+    done(raw::write_async_pec(address, write, readings, log))
+}
+
+/// As [`blocking_write_read`], with a packet error code; [`crate::Refusal::WrongPacketErrorCode`] where it ends in a read and the code is wrong.
+pub fn blocking_write_read_pec(
+    address: u16,
+    write: &[u8],
+    read: &mut [u8],
+    readings: &[u32],
+    log: &mut [u32],
+) -> Left<()> {
+    done(raw::blocking_write_read_pec(address, write, read, readings, log))
+}
+
+/// As [`write_read_async`], with a packet error code; [`crate::Refusal::WrongPacketErrorCode`] where it ends in a read and the code is wrong.
+pub fn write_read_async_pec(
+    address: u16,
+    write: &[u8],
+    read: &mut [u8],
+    readings: &[u32],
+    log: &mut [u32],
+) -> Left<()> {
+    done(raw::write_read_async_pec(address, write, read, readings, log))
+}
+
+/// As [`transaction`], with a packet error code; [`crate::Refusal::WrongPacketErrorCode`] where it ends in a read and the code is wrong.
+pub fn transaction_pec(
+    address: u16,
+    kinds: &[u8],
+    lengths: &[u16],
+    write: &[u8],
+    read: &mut [u8],
+    readings: &[u32],
+    log: &mut [u32],
+) -> Left<()> {
+    done(raw::transaction_pec(address, kinds, lengths, write, read, readings, log))
+}
+
+/// As [`transaction_async`], with a packet error code; [`crate::Refusal::WrongPacketErrorCode`] where it ends in a read and the code is wrong.
+pub fn transaction_async_pec(
+    address: u16,
+    kinds: &[u8],
+    lengths: &[u16],
+    write: &[u8],
+    read: &mut [u8],
+    readings: &[u32],
+    log: &mut [u32],
+) -> Left<()> {
+    done(raw::transaction_async_pec(address, kinds, lengths, write, read, readings, log))
+}
+
+/// CRC-8 of SMBus over bytes, from a start value: 0, or what the bytes before them left. Over a message with its right
+/// code it is 0.
+pub fn crc8(start: u8, bytes: &[u8]) -> u8 {
+    raw::crc8(start, bytes)
 }

@@ -33,6 +33,8 @@ pub enum Access {
 /// A transfer under way, over the buffers that it is given.
 pub struct Transfer<'a> {
     words: raw::Words,
+    /// Where it has a packet error code, the code so far.
+    code: Option<raw::Code>,
     kinds: [u8; MOST_OPERATIONS],
     lengths: [u16; MOST_OPERATIONS],
     count: usize,
@@ -44,6 +46,7 @@ impl<'a> Transfer<'a> {
     /// `form` is that of the blocking transfer, and `queued` takes the async one. More than 64 operations are refused
     /// as any transfer over the limits.
     fn start(
+        coded: bool,
         queued: bool,
         form: u8,
         address: u16,
@@ -64,21 +67,29 @@ impl<'a> Transfer<'a> {
         let kinds_told = if operations.len() > MOST_OPERATIONS { &[] } else { &kinds[..count] };
         let mut words = [0; 20];
         let form = if queued { form + QUEUED } else { form };
-        raw::start(&mut words, form, address, kinds_told, &lengths[..count], write.len(), read.len());
-        Transfer { words, kinds, lengths, count, write, read }
+        let lengths_told = &lengths[..count];
+        let code = if coded {
+            let mut code = [0; 2];
+            raw::start_pec(&mut words, &mut code, form, address, kinds_told, lengths_told, write.len(), read.len());
+            Some(code)
+        } else {
+            raw::start(&mut words, form, address, kinds_told, lengths_told, write.len(), read.len());
+            None
+        };
+        Transfer { words, code, kinds, lengths, count, write, read }
     }
 
     pub fn read(queued: bool, address: u16, read: &'a mut [u8]) -> Self {
-        Self::start(queued, READ, address, &[Operation::Read(length(read))], &[], read)
+        Self::start(false, queued, READ, address, &[Operation::Read(length(read))], &[], read)
     }
 
     pub fn write(queued: bool, address: u16, write: &'a [u8]) -> Self {
-        Self::start(queued, WRITE, address, &[Operation::Write(length(write))], write, &mut [])
+        Self::start(false, queued, WRITE, address, &[Operation::Write(length(write))], write, &mut [])
     }
 
     pub fn write_read(queued: bool, address: u16, write: &'a [u8], read: &'a mut [u8]) -> Self {
         let operations = [Operation::Write(length(write)), Operation::Read(length(read))];
-        Self::start(queued, WRITE_READ, address, &operations, write, read)
+        Self::start(false, queued, WRITE_READ, address, &operations, write, read)
     }
 
     /// The writes' bytes stand end to end in `write`, the reads' in `read`.
@@ -89,26 +100,62 @@ impl<'a> Transfer<'a> {
         write: &'a [u8],
         read: &'a mut [u8],
     ) -> Self {
-        Self::start(queued, TRANSACTION, address, operations, write, read)
+        Self::start(false, queued, TRANSACTION, address, operations, write, read)
+    }
+
+    /// As [`Transfer::read`], with a packet error code.
+    pub fn read_pec(queued: bool, address: u16, read: &'a mut [u8]) -> Self {
+        Self::start(true, queued, READ, address, &[Operation::Read(length(read))], &[], read)
+    }
+
+    /// As [`Transfer::write`], with a packet error code.
+    pub fn write_pec(queued: bool, address: u16, write: &'a [u8]) -> Self {
+        Self::start(true, queued, WRITE, address, &[Operation::Write(length(write))], write, &mut [])
+    }
+
+    /// As [`Transfer::write_read`], with a packet error code.
+    pub fn write_read_pec(queued: bool, address: u16, write: &'a [u8], read: &'a mut [u8]) -> Self {
+        let operations = [Operation::Write(length(write)), Operation::Read(length(read))];
+        Self::start(true, queued, WRITE_READ, address, &operations, write, read)
+    }
+
+    /// As [`Transfer::transaction`], with a packet error code.
+    pub fn transaction_pec(
+        queued: bool,
+        address: u16,
+        operations: &[Operation],
+        write: &'a [u8],
+        read: &'a mut [u8],
+    ) -> Self {
+        Self::start(true, queued, TRANSACTION, address, operations, write, read)
     }
 
     #[inline]
     pub fn next_access(&self) -> Access {
-        raw::next_access(&self.words, self.write).into()
+        match &self.code {
+            None => raw::next_access(&self.words, self.write).into(),
+            Some(code) => raw::next_access_pec(&self.words, code, self.write).into(),
+        }
     }
 
     /// Goes on after the access, which read `value` (0 where it read nothing).
     #[inline]
     pub fn advance(&mut self, value: u32) {
         let (kinds, lengths) = (&self.kinds[..self.count], &self.lengths[..self.count]);
-        raw::advance(&mut self.words, value, kinds, lengths, self.read);
+        match &mut self.code {
+            None => raw::advance(&mut self.words, value, kinds, lengths, self.read),
+            Some(code) => raw::advance_pec(&mut self.words, code, value, kinds, lengths, self.write, self.read),
+        }
     }
 
     /// Goes on after the access, which read `value`, and tells the next one: both in one call.
     #[inline]
     pub fn step(&mut self, value: u32) -> Access {
         let (kinds, lengths) = (&self.kinds[..self.count], &self.lengths[..self.count]);
-        raw::step(&mut self.words, value, kinds, lengths, self.write, self.read).into()
+        match &mut self.code {
+            None => raw::step(&mut self.words, value, kinds, lengths, self.write, self.read).into(),
+            Some(code) => raw::step_pec(&mut self.words, code, value, kinds, lengths, self.write, self.read).into(),
+        }
     }
 }
 

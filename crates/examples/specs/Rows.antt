@@ -1,4 +1,4 @@
--- The worked examples (a) to (j) of docs/MANUAL.md, as rows of one table, and what it means that a row holds: of
+-- The worked examples (a) to (o) of docs/MANUAL.md, as rows of one table, and what it means that a row holds: of
 -- whole calls, with the registers' offsets as numbers.
 use Prim.Native.Nat.{ℕ}
 use mathlib.Core.Bool.{Bool, true, false}
@@ -12,9 +12,10 @@ use Rattle.regs.specs.Log.{expected}
 use Rattle.regs.specs.declared.answers.Reply.{Reply}
 use Rattle.regs.specs.declared.access.Entry.the-variants.{Read, Write, Marked}
 use Rattle.bus.specs.Bus.{written-to}
+use Rattle.crc8.specs.Crc8.{crc8}
 use Rattle.clock_setting.specs.SetConfig.{set-config}
 use Rattle.master.specs.Operations.{Mode, blocking, async}
-use Rattle.master.specs.Calls.{Lent, reads-into, writes-from, left-by-call}
+use Rattle.master.specs.Calls.{Lent, reads-into, writes-from, writes-then-reads, transacts, left-by-call}
 use Rattle.slave.specs.Calls.{resets}
 use Rattle.slave.specs.Calls as Slave
 use Rattle.slave.specs.declared.SlaveState.{SlaveState}
@@ -32,6 +33,10 @@ pub data Row : Type 0 where
   accepted : Mode → ℕ → List ℕ → Row
   -- or refused with number 6 and the address, and no access
   out-of-range : Mode → ℕ → Row
+  -- the packet error code over bytes
+  code : List ℕ → ℕ → Row
+  -- a master call with a packet error code has this answer on these readings, writes these words and leaves this buffer
+  coded : Mode → Lent → List ℕ → ℕ → List ℕ → List ℕ → Row
 
 -- a log with room for 50 entries
 abbrev pub some-room : List ℕ
@@ -41,8 +46,12 @@ some-room = replicate 100 0
 abbrev pub configured : ℕ → ℕ → Outcome (Unit {0}) Reply
 configured frequency clk = expected (set-config frequency clk) some-room (1 ∷ []) [] tt
 
+abbrev pub called-by : Bool → Mode → ℕ → Lent → List ℕ → Outcome (Unit {0}) Reply
+called-by pec mode address lent readings =
+    left-by-call (record { mode = mode; address = address; lent = lent; pec = pec }) some-room readings
+
 abbrev pub called : Mode → ℕ → Lent → List ℕ → Outcome (Unit {0}) Reply
-called mode address lent readings = left-by-call (record { mode = mode; address = address; lent = lent }) some-room readings
+called = called-by false
 
 abbrev pub one-byte : Lent
 one-byte = reads-into (0 ∷ [])
@@ -68,6 +77,36 @@ Holds (accepted mode a readings) =
 Holds (out-of-range mode a) =
     (number (called mode a one-byte [] .answer) ≡ 6)
     × ((detail (called mode a one-byte [] .answer) ≡ a) × (called mode a one-byte [] .log ≡ []))
+Holds (code bytes c) = crc8 bytes ≡ c
+Holds (coded mode lent readings n ws buffer) =
+    (number (called-by true mode 0x50 lent readings .answer) ≡ n)
+    × ((written-to 0x10 (called-by true mode 0x50 lent readings .log) ≡ ws)
+    × (called-by true mode 0x50 lent readings .buffer ≡ buffer))
+
+-- a read of one byte, then a write of 0xCE
+abbrev pub read-then-write : Lent
+read-then-write = transacts (0 ∷ 1 ∷ []) (1 ∷ 1 ∷ []) (0xCE ∷ []) (0 ∷ [])
+
+-- a write of 1, then a read of one byte
+abbrev pub write-then-read : Lent
+write-then-read = writes-then-reads (1 ∷ []) (0 ∷ [])
+
+-- with a packet error code
+abbrev pub coded-rows : List Row
+coded-rows =
+    code (0x31 ∷ 0x32 ∷ 0x33 ∷ 0x34 ∷ 0x35 ∷ 0x36 ∷ 0x37 ∷ 0x38 ∷ 0x39 ∷ []) 0xF4  -- (k)
+    ∷ code (0xA0 ∷ 0x01 ∷ []) 0x1F  -- (l)
+    ∷ coded blocking (writes-from (1 ∷ [])) (0x10 ∷ 0 ∷ 0x10 ∷ 0 ∷ 0x200 ∷ 0 ∷ []) 0 (0x001 ∷ 0x21F ∷ []) []
+    ∷ coded async (writes-from (1 ∷ [])) (0 ∷ 0 ∷ 0x200 ∷ 0 ∷ []) 0 (0x001 ∷ 0x21F ∷ []) []
+    ∷ coded async one-byte (0 ∷ 2 ∷ 0 ∷ 0x5A ∷ 0x8C ∷ 0 ∷ 0x200 ∷ 0 ∷ []) 0 (0x500 ∷ 0x300 ∷ []) (0x5A ∷ [])  -- (m)
+    ∷ coded async one-byte (0 ∷ 2 ∷ 0 ∷ 0x5A ∷ 0x8D ∷ 0 ∷ 0x200 ∷ 0 ∷ []) 22 (0x500 ∷ 0x300 ∷ []) (0x5A ∷ [])
+    ∷ coded async read-then-write (0 ∷ 1 ∷ 0 ∷ 0x5A ∷ 0 ∷ 0 ∷ 0x200 ∷ 0 ∷ []) 0  -- (n)
+    (0x100 ∷ 0x0CE ∷ 0x236 ∷ []) (0x5A ∷ [])
+    ∷ coded blocking write-then-read (0x10 ∷ 0 ∷ 0 ∷ 1 ∷ 0x5A ∷ 0 ∷ 1 ∷ 0x18 ∷ []) 0  -- (o)
+    (0x001 ∷ 0x500 ∷ 0x300 ∷ []) (0x5A ∷ [])
+    ∷ coded async write-then-read (0 ∷ 0 ∷ 2 ∷ 0 ∷ 0x5A ∷ 0x18 ∷ 0 ∷ 0x200 ∷ 0 ∷ []) 0
+    (0x001 ∷ 0x500 ∷ 0x300 ∷ []) (0x5A ∷ [])
+    ∷ []
 
 abbrev pub rows : List Row
 rows =
@@ -90,4 +129,4 @@ rows =
     ∷ accepted async 0x7F (0 ∷ 1 ∷ 0 ∷ 0xAA ∷ 0 ∷ 0x200 ∷ 0 ∷ [])
     ∷ out-of-range blocking 0x80
     ∷ out-of-range async 0x80
-    ∷ []
+    ∷ coded-rows

@@ -219,7 +219,7 @@ fn push_number(out: &mut [u8], at: usize, n: u32) -> usize
     requires { ⌜ at + 40 ≤ length (now out) ⌝ }
     ensures { λ r. ⌜ Appended (now (out .entry)) at (cell answers 40 n) 40 (now (out .exit)) r ⌝ }
 {
-    if n < 22 {
+    if n < 23 {
         return push_cell(
             out,
             at,
@@ -233,7 +233,8 @@ fn push_number(out: &mut [u8], at: usize, n: u32) -> usize
               14 partial write........................15 partial general call.................\
               16 slave address 0......................17 no place for the pending byte........\
               18 out of readings......................19 log full.............................\
-              20 over the limits......................21 malformed frame at line..............",
+              20 over the limits......................21 malformed frame at line..............\
+              22 wrong packet error code..............",
             40,
             n as usize,
         );

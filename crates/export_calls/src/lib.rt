@@ -2,6 +2,7 @@
 // (`rt staticlib export_calls`). Each forwards to the call of the same name;
 // numbers, slices and structs of numbers go through, and an answer is given by
 // its number and detail (docs/MANUAL.md). A slice is a pointer and a length.
+pub mod coded_calls; // the transfers with a packet error code
 pub mod slave_calls; // the slave's calls, with the state by value
 
 use regs::access::Ran;

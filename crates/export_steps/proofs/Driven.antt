@@ -2,6 +2,7 @@
 -- It rests on `point-kept`: what is held loses nothing of a point with more to do.
 use Prim.Native.Nat.{ℕ}
 use mathlib.Core.Path.{_≡_, refl}
+use mathlib.Core.Bool.{Bool}
 use mathlib.Core.List.{List}
 use mathlib.Core.Logic.{⊎-elim}
 use Rattle.transfer.specs.inner.Machine.{next-at, next-of, store-at, store-of, step-of, advance-of}
@@ -22,15 +23,15 @@ module _ (bytes : List ℕ) (t : Transfer) where
   pub same-access : access-held bytes (held-of t) ≡ access-of (next-of bytes t)
   same-access = ⊎-elim access-going access-ended (point-kept (t .point))
 
-module _ (kinds lengths : List ℕ) (t : Transfer) (v : ℕ) where
-  advance-going : Going (t .point) → advanced-held kinds lengths (held-of t) v ≡ held-of (advance-of kinds lengths t v)
+module _ (coded : Bool) (kinds lengths : List ℕ) (t : Transfer) (v : ℕ) where
+  advance-going : Going (t .point) → advanced-held coded kinds lengths (held-of t) v ≡ held-of (advance-of coded kinds lengths t v)
   advance-going g = rw (g .2 t) refl
 
-  advance-ended : Ended (t .point) → advanced-held kinds lengths (held-of t) v ≡ held-of (advance-of kinds lengths t v)
+  advance-ended : Ended (t .point) → advanced-held coded kinds lengths (held-of t) v ≡ held-of (advance-of coded kinds lengths t v)
   unfolding held-in step-of
   advance-ended e = rw (e .is) refl
 
-  pub same-advance : advanced-held kinds lengths (held-of t) v ≡ held-of (advance-of kinds lengths t v)
+  pub same-advance : advanced-held coded kinds lengths (held-of t) v ≡ held-of (advance-of coded kinds lengths t v)
   same-advance = ⊎-elim advance-going advance-ended (point-kept (t .point))
 
 module _ (t : Transfer) (v : ℕ) where

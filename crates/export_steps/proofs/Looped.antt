@@ -2,27 +2,33 @@
 -- is the step of the transfer) and on `steps-are-called` (the transfer's steps are the call).
 use Prim.Native.Nat.{ℕ, zero, suc, _<_}
 use native.Mathlib.Omega.{arith}
+use mathlib.Core.Bool.{Bool, true, false}
 use mathlib.Core.List.{List}
 use mathlib.Core.Path.{_≡_, refl, ap, _∙_}
+use lib.ListN.{length}
 use Rattle.regs.specs.Steps.{stepped, without-room, with-room}
 use Rattle.regs.specs.Program.{just}
 use Rattle.regs.specs.Answers as Answers
 use Rattle.regs.specs.Steps.{Machine, stored-in}
+use Rattle.regs.specs.inner.Summed.{sum-after, summed-machine}
 use Rattle.regs.specs.declared.answers.Answer.{Answer}
 use Rattle.regs.specs.declared.answers.Reply.the-variants.{Answered}
 use Rattle.regs.specs.declared.access.Next.{Next}
 use Rattle.regs.specs.declared.access.Next.the-variants.{Read, Write, Mark, Finished}
 use Rattle.regs.specs.declared.access.Entry.the-variants as E
+use Rattle.master.specs.inner.Running.{Sum, fresh, running}
 use Rattle.transfer.specs.inner.Machine.{machine, next-of, advance-of, store-of}
 use Rattle.transfer.specs.declared.Transfer.{Transfer}
 use Rattle.words_points.specs.Held.{held-of, advanced-held, store-held}
 use Rattle.words.specs.inner.Words.{held-at}
-use Rattle.export_steps.specs.inner.Steps.{ended, access-of, access-held, first-of, Tells, Moves}
-use Rattle.export_steps.specs.inner.Steps.{Stores}
+use Rattle.words_code.specs.inner.Code.{sum-in}
+use Rattle.export_steps.specs.inner.Steps.{ended, access-of, access-held, first-of, told-by, sum-held}
+use Rattle.export_steps.specs.inner.Steps.{Holding, Tells, Advances, Moves, Stores}
 use Rattle.export_steps.specs.Loop.{Left, left, after, told, LoopAsCalled}
 use Rattle.export_steps.specs.Loop.{Loop, at-end, no-room, no-reading, reads, writes, marks, unknown}
 use Rattle.export_steps.specs.declared.Access.{Access}
 use Rattle.export_steps.proofs.Driven.{same-access, same-advance, same-store}
+use Rattle.export_steps.proofs.Told.{same-told, same-sum, same-address, first-address}
 use Rattle.export_steps.proofs.Forms.{steps-are-called}
 
 -- ---- the access that a kind tells
@@ -77,68 +83,114 @@ told-unknown (Mark x) e k = omega (arith, ap kind-of e)
 told-unknown (Finished answer) e k = omega (arith, ap kind-of e)
 
 -- without room an access that is not the end is not made
-told-full : (n : Next) {a : Access} (buffer : List ℕ) → a ≡ access-of n → 0 < a .kind → left buffer 19 0 ≡ told (without-room n buffer tt)
+told-full : {K : Type 0} (n : Next) {a : Access} (buffer : List ℕ) (me : K) → a ≡ access-of n → 0 < a .kind
+    → left buffer 19 0 ≡ told (without-room n buffer me)
 unfolding access-of ended without-room
-told-full (Read r) buffer e k = refl
-told-full (Write r v) buffer e k = refl
-told-full (Mark x) buffer e k = refl
-told-full (Finished answer) buffer e k = absurd (omega (arith, ap kind-of e))
+told-full (Read r) buffer me e k = refl
+told-full (Write r v) buffer me e k = refl
+told-full (Mark x) buffer me e k = refl
+told-full (Finished answer) buffer me e k = absurd (omega (arith, ap kind-of e))
 
 -- ---- the loop
 
-module _ (kinds lengths bytes : List ℕ) where
-  abbrev M : Machine
-  M = machine kinds lengths bytes
+-- over any machine that does what is told of, led to and stored by what is held: `Same` says which point is held
+module _ (pec : Bool) (kinds lengths bytes : List ℕ) (M : Machine) (Same : Holding pec → M .S → Type 0)
+    (tells : (held : Holding pec) (s : M .S) (a : Access) → Same held s → Tells pec held bytes a → a ≡ access-of (M .next s))
+    (moves : (held held′ : Holding pec) (s : M .S) (v : ℕ) → Same held s → Moves pec kinds lengths bytes held v held′
+    → Same held′ (M .advance s v))
+    (keeps : (held : Holding pec) (s : M .S) (v : ℕ) (buffer buffer′ : List ℕ) → Same held s → Stores pec held v buffer buffer′
+    → buffer′ ≡ stored-in buffer (M .store s v))
+  where
+    at-finish : (s : M .S) (room : ℕ) (readings buffer : List ℕ) {answer : Answer}
+        → M .next s ≡ Finished answer
+        → stepped M room s readings buffer ≡ just (Answered answer) buffer (M .state s)
+    unfolding stepped without-room with-room
+    at-finish s zero readings buffer i = rw i
+    at-finish s (suc room) readings buffer i = rw i
 
-  -- what the words tell, lead to and store is what the transfer does
-  tells : (t : Transfer) (words : List ℕ) {a : Access}
-      → held-at words ≡ held-of t
-      → Tells words bytes a
-      → a ≡ access-of (next-of bytes t)
-  tells t words h e = e ∙ ap (access-held bytes) h ∙ same-access bytes t
+    finishes : (s : M .S) (room : ℕ) (readings buffer : List ℕ) {a : Access} → Ends (M .next s) a
+        → left buffer (a .number) (a .value) ≡ told (stepped M room s readings buffer)
+    finishes s room readings buffer end = rw (at-finish s room readings buffer (end .is), end .number, end .detail)
 
-  moves : (t : Transfer) (v : ℕ) (words words′ : List ℕ) → held-at words ≡ held-of t → Moves kinds lengths words v words′
-      → held-at words′ ≡ held-of (advance-of kinds lengths t v)
-  moves t v words words′ h moved = moved ∙ ap (λ x. advanced-held kinds lengths x v) h ∙ same-advance kinds lengths t v
+    looped : (s : M .S) {room : ℕ} {readings : List ℕ} {held : Holding pec} {buffer : List ℕ} {l : Left}
+        → Same held s
+        → Loop pec kinds lengths bytes room readings held buffer l
+        → l ≡ told (stepped M room s readings buffer)
+    unfolding stepped with-room
+    looped s {room} {readings} {held} {buffer} h (at-end {a = a} e k) =
+        finishes s room readings buffer (told-end (M .next s) (tells held s a h e) k)
+    looped s {held = held} {buffer = buffer} h (no-room {a = a} e k) = told-full (M .next s) buffer (M .state s) (tells held s a h e) k
+    looped s {held = held} h (no-reading {a = a} e k) = rw (told-read (M .next s) (tells held s a h e) k)
+    looped s {held = held} {buffer = buffer} h (reads {v = v} {buffer′ = buffer′} {held′ = held′} {a = a} e k moved stored rest) =
+        rw (told-read (M .next s) (tells held s a h e) k, ← (keeps held s v buffer buffer′ h stored))
+        (ap (after (E.Read (a .register) v)) (looped (M .advance s v) (moves held held′ s v h moved) rest))
+    looped s {held = held} {buffer = buffer} h (writes {buffer′ = buffer′} {held′ = held′} {a = a} e k moved stored rest) =
+        rw (told-write (M .next s) (tells held s a h e) k, ← (keeps held s 0 buffer buffer′ h stored))
+        (ap (after (E.Write (a .register) (a .value))) (looped (M .advance s 0) (moves held held′ s 0 h moved) rest))
+    looped s {held = held} {buffer = buffer} h (marks {buffer′ = buffer′} {held′ = held′} {a = a} e k moved stored rest) =
+        rw (told-mark (M .next s) (tells held s a h e) k, ← (keeps held s 0 buffer buffer′ h stored))
+        (ap (after (E.Marked (a .register))) (looped (M .advance s 0) (moves held held′ s 0 h moved) rest))
+    looped s {held = held} h (unknown {a = a} e k) = absurd (told-unknown (M .next s) (tells held s a h e) k)
 
-  keeps : (t : Transfer) (v : ℕ) (words buffer buffer′ : List ℕ) → held-at words ≡ held-of t → Stores words v buffer buffer′
+-- ---- what is held
+
+-- what the words lead to and store is what the transfer does
+module _ (words : List ℕ) (t : Transfer) (v : ℕ) (h : held-at words ≡ held-of t) where
+  words-move : (coded : Bool) (kinds lengths words′ : List ℕ) → Advances coded kinds lengths words v words′
+      → held-at words′ ≡ held-of (advance-of coded kinds lengths t v)
+  words-move coded kinds lengths words′ moved =
+      moved ∙ ap (λ x. advanced-held coded kinds lengths x v) h ∙ same-advance coded kinds lengths t v
+
+  words-keep : (buffer buffer′ : List ℕ) → buffer′ ≡ stored-in buffer (store-held (held-at words) v)
       → buffer′ ≡ stored-in buffer (store-of t v)
-  keeps t v words buffer buffer′ h stored =
+  words-keep buffer buffer′ stored =
       stored ∙ ap (λ x. stored-in buffer (store-held x v)) h ∙ ap (stored-in buffer) (same-store t v)
 
-  at-finish : (t : Transfer) (room : ℕ) (readings buffer : List ℕ) {answer : Answer}
-      → next-of bytes t ≡ Finished answer
-      → stepped M room t readings buffer ≡ just (Answered answer) buffer tt
-  unfolding stepped without-room with-room
-  at-finish t zero readings buffer i = rw i
-  at-finish t (suc room) readings buffer i = rw i
+-- with a packet error code: the words hold the transfer, and the code is beside them
+record Beside (address : ℕ) (held : List ℕ × List ℕ) (p : Sum × Transfer) : Type 0 where
+  words : held-at (held .0) ≡ held-of (p .1)
+  code : sum-in (held .1) ≡ p .0
+  same : p .1 .address ≡ address
 
-  finishes : (t : Transfer) (room : ℕ) (readings buffer : List ℕ) {a : Access} → Ends (next-of bytes t) a
-      → left buffer (a .number) (a .value) ≡ told (stepped M room t readings buffer)
-  finishes t room readings buffer end = rw (at-finish t room readings buffer (end .is), end .number, end .detail)
+module _ (address : ℕ) (kinds lengths bytes : List ℕ) where
+  abbrev M : Machine
+  M = summed-machine (running address) (machine true kinds lengths bytes)
 
-  pub looped : (t : Transfer) {room : ℕ} {readings words buffer : List ℕ} {l : Left}
-      → held-at words ≡ held-of t
-      → Loop kinds lengths bytes room readings words buffer l
-      → l ≡ told (stepped M room t readings buffer)
-  unfolding stepped with-room
-  looped t {room} {readings} {words} {buffer} h (at-end e k) =
-      finishes t room readings buffer (told-end (next-of bytes t) (tells t words h e) k)
-  looped t {words = words} {buffer = buffer} h (no-room e k) = told-full (next-of bytes t) buffer (tells t words h e) k
-  looped t {words = words} h (no-reading e k) = rw (told-read (next-of bytes t) (tells t words h e) k)
-  looped t {words = words} {buffer = buffer} h (reads {v = v} {words′ = words′} {buffer′ = buffer′} {a = a} e k moved stored rest) =
-      rw (told-read (next-of bytes t) (tells t words h e) k, ← (keeps t v words buffer buffer′ h stored))
-      (ap (after (E.Read (a .register) v)) (looped (advance-of kinds lengths t v) (moves t v words words′ h moved) rest))
-  looped t {words = words} {buffer = buffer} h (writes {words′ = words′} {buffer′ = buffer′} {a = a} e k moved stored rest) =
-      rw (told-write (next-of bytes t) (tells t words h e) k, ← (keeps t 0 words buffer buffer′ h stored))
-      (ap (after (E.Write (a .register) (a .value)))
-      (looped (advance-of kinds lengths t 0) (moves t 0 words words′ h moved) rest))
-  looped t {words = words} {buffer = buffer} h (marks {words′ = words′} {buffer′ = buffer′} {a = a} e k moved stored rest) =
-      rw (told-mark (next-of bytes t) (tells t words h e) k, ← (keeps t 0 words buffer buffer′ h stored))
-      (ap (after (E.Marked (a .register))) (looped (advance-of kinds lengths t 0) (moves t 0 words words′ h moved) rest))
-  looped t {words = words} h (unknown e k) = absurd (told-unknown (next-of bytes t) (tells t words h e) k)
+  code-tells : (held : List ℕ × List ℕ) (p : Sum × Transfer) (a : Access) → Beside address held p → Tells true held bytes a
+      → a ≡ access-of (M .next p)
+  code-tells held p a b e =
+      e ∙ ap (λ x. told-by x (access-held bytes (held-at (held .0)))) (b .code)
+      ∙ ap (λ x. told-by (p .0) (access-held bytes x)) (b .words) ∙ same-told address (p .0) bytes (p .1)
+
+  code-moves : (held held′ : List ℕ × List ℕ) (p : Sum × Transfer) (v : ℕ) → Beside address held p
+      → Moves true kinds lengths bytes held v held′
+      → Beside address held′ (M .advance p v)
+  code-moves held held′ p v b moved = record {
+    words = words-move (held .0) (p .1) v (b .words) true kinds lengths (held′ .0) (moved .0);
+    code =
+        moved .1 ∙ ap (λ x. sum-held bytes (held-at (held .0)) x v) (b .code)
+        ∙ ap (λ x. sum-held bytes x (p .0) v) (b .words) ∙ same-sum bytes (p .0) (p .1) v
+        ∙ ap (λ (x : ℕ). sum-after (running x) (p .0) (next-of bytes (p .1)) v) (b .same);
+    same = same-address true kinds lengths (p .1) v ∙ b .same;
+  }
 
 pub loop-as-called : LoopAsCalled
-loop-as-called form address kinds lengths bytes buffer readings log words l starts loop =
-    looped kinds lengths bytes (first-of form address kinds lengths _ _) starts loop
-    ∙ ap told (steps-are-called form address kinds lengths bytes buffer readings log)
+loop-as-called false form address kinds lengths bytes buffer readings log words l small starts loop =
+    looped false kinds lengths bytes (machine false kinds lengths bytes) (λ words t. held-at words ≡ held-of t)
+    (λ words t a h e. e ∙ ap (access-held bytes) h ∙ same-access bytes t)
+    (λ words words′ t v h moved. words-move words t v h false kinds lengths words′ moved)
+    (λ words t v buffer buffer′ h stored. words-keep words t v h buffer buffer′ stored)
+    (first-of form address kinds lengths _ _) starts loop
+    ∙ ap told (steps-are-called false form address kinds lengths bytes buffer readings log small)
+loop-as-called true form address kinds lengths bytes buffer readings log held l small starts loop =
+    looped true kinds lengths bytes (M address kinds lengths bytes) (Beside address) (code-tells address kinds lengths bytes)
+    (code-moves address kinds lengths bytes)
+    (λ held p v buffer buffer′ b stored. words-keep (held .0) (p .1) v (b .words) buffer buffer′ stored)
+    (fresh, first-of form address kinds lengths _ _)
+    (record {
+      words = starts .0;
+      code = starts .1;
+      same = first-address form address kinds lengths (length bytes) (length buffer);
+    })
+    loop
+    ∙ ap told (steps-are-called true form address kinds lengths bytes buffer readings log small)

@@ -1,4 +1,5 @@
--- The eight forms of a transfer that `celadonsaw_start` is given by number, and the program of each.
+-- The eight forms of a transfer that `celadonsaw_start` and `celadonsaw_start_pec` are given by number, and the program of
+-- each, `pec` where it has a packet error code.
 use Prim.Native.Nat.{ℕ, _%_}
 use mathlib.Core.Bool.{Bool, true, false, _&&_}
 use mathlib.Core.List.{List, [], _∷_}
@@ -30,9 +31,9 @@ lent-by write kinds lengths bytes buffer = writes-from bytes
 lent-by write-read kinds lengths bytes buffer = writes-then-reads bytes buffer
 lent-by transaction kinds lengths bytes buffer = transacts kinds lengths bytes buffer
 
-abbrev pub call-of : ℕ → ℕ → List ℕ → List ℕ → List ℕ → List ℕ → Call
-call-of form address kinds lengths bytes buffer =
-    record { mode = mode-of-form form; address = address; lent = lent-by (shape-of form) kinds lengths bytes buffer }
+abbrev pub call-of : Bool → ℕ → ℕ → List ℕ → List ℕ → List ℕ → List ℕ → Call
+call-of pec form address kinds lengths bytes buffer =
+    record { mode = mode-of-form form; address = address; lent = lent-by (shape-of form) kinds lengths bytes buffer; pec = pec }
 
 unfoldable pub same : List ℕ → List ℕ → Bool
 same [] [] = true
@@ -56,6 +57,6 @@ unfoldable pub accepts : ℕ → List ℕ → List ℕ → ℕ → ℕ → Bool
 accepts form kinds lengths written room = fits-form form kinds && lists kinds lengths written room
 
 -- the program of a form: that of its call, or number 20
-abbrev pub program-by : ℕ → ℕ → List ℕ → List ℕ → List ℕ → List ℕ → Driver Answer
-program-by form address kinds lengths bytes buffer =
-    within (accepts form kinds lengths (length bytes) (length buffer)) (program (call-of form address kinds lengths bytes buffer))
+abbrev pub program-by : Bool → ℕ → ℕ → List ℕ → List ℕ → List ℕ → List ℕ → Driver Answer
+program-by pec form address kinds lengths bytes buffer =
+    within (accepts form kinds lengths (length bytes) (length buffer)) (program (call-of pec form address kinds lengths bytes buffer))

@@ -1,6 +1,8 @@
 // A master transfer driven one access at a time from C or Rust (`rt staticlib export_steps`): start it
 // and ask for the first access; then perform the access and step with the word read, until the access
 // is the end. The transfer is held by the caller, as 20 words (`words`) that each function is lent.
+// The functions that end in `_pec` are for a transfer with a packet error code, whose running code
+// the caller holds beside the words as two bytes (`code`): one transfer takes either kind, not both.
 use i2c::is_listed;
 use regs::access::Next;
 use regs::answers::Answer;
@@ -8,13 +10,16 @@ use regs::answers::Refusal;
 use regs::answers::Reply;
 use transfer::Point;
 use transfer::Transfer;
+use words::ADDRESS;
 use words::ROW;
 use words::WORD;
 ghost use mathlib.Core.Path.{_≡_};
+ghost use mathlib.Core.Bool.{true, false};
 ghost use mathlib.Core.List.{[], _∷_};
 ghost use Rattle.export_steps.specs.Forms.{same, fits-form, accepts};
-ghost use Rattle.export_steps.specs.inner.Steps.{access-of, over-limits};
-ghost use Rattle.export_steps.specs.inner.Steps.{Starts, Tells, Moves, Stores};
+ghost use Rattle.words_code.specs.inner.Code.{sum-in};
+ghost use Rattle.export_steps.specs.inner.Steps.{access-of, over-limits, told-by};
+ghost use Rattle.export_steps.specs.inner.Steps.{Starts, Tells, Advances, Moves, Stores};
 
 // The access that is next: kind 1 reads the register, 2 writes the value to it,
 // 3 is a mark (register 0: a poll that is not done; 1: a reset of the block),
@@ -137,7 +142,7 @@ pub extern "C" fn celadonsaw_start(
     written: usize,
     room: usize,
 )
-    ensures { λ _. ⌜ Starts form address (now (kinds .entry)) (now (lengths .entry)) written room
+    ensures { λ _. ⌜ Starts false form address (now (kinds .entry)) (now (lengths .entry)) written room
         (now (words .exit)) ⌝ }
 {
     let mode = words::mode(3 < form);
@@ -154,7 +159,7 @@ pub extern "C" fn celadonsaw_start(
 // The access that is next. `write` is the write buffer.
 #[no_mangle]
 pub extern "C" fn celadonsaw_next_access(words: &[u64; 20], write: &[u8]) -> Access
-    ensures { λ r. ⌜ Tells (now (words .entry)) (now (write .entry)) r ⌝ }
+    ensures { λ r. ⌜ Tells false (now (words .entry)) (now (write .entry)) r ⌝ }
 {
     if words::ended(words) {
         return Access {
@@ -168,15 +173,18 @@ pub extern "C" fn celadonsaw_next_access(words: &[u64; 20], write: &[u8]) -> Acc
 }
 
 // A step that is not made on the words: they are decoded, and the transfer after the step is put back.
-fn by_points(words: &mut [u64; 20], value: u32, kinds: &[u8], lengths: &[u16])
-    ensures { λ _. ⌜ Moves (now (kinds .entry)) (now (lengths .entry)) (now (words .entry)) value
+fn by_points(words: &mut [u64; 20], value: u32, coded: bool, kinds: &[u8], lengths: &[u16])
+    ensures { λ _. ⌜ Advances coded (now (kinds .entry)) (now (lengths .entry)) (now (words .entry)) value
         (now (words .exit)) ⌝ }
 {
     if words::ended(words) {
         return;
     }
     let t = words::transfer_from(words);
-    words::put(words, transfer_steps::advance(t, value, kinds, lengths));
+    words::put(
+        words,
+        transfer_steps::advance(t, value, coded, kinds, lengths),
+    );
 }
 
 // The transfer after that access, which read `value` (0 where it read
@@ -189,12 +197,12 @@ pub extern "C" fn celadonsaw_advance(
     lengths: &[u16],
     read: &mut [u8],
 )
-    ensures { λ _. ⌜ Moves (now (kinds .entry)) (now (lengths .entry)) (now (words .entry)) value
+    ensures { λ _. ⌜ Moves false (now (kinds .entry)) (now (lengths .entry)) [] (now (words .entry)) value
         (now (words .exit)) ⌝ }
-    ensures { λ _. ⌜ Stores (now (words .entry)) value (now (read .entry)) (now (read .exit)) ⌝ }
+    ensures { λ _. ⌜ Stores false (now (words .entry)) value (now (read .entry)) (now (read .exit)) ⌝ }
 {
     regs::access::keep(read, words_access::store(words, value));
-    by_points(words, value, kinds, lengths);
+    by_points(words, value, false, kinds, lengths);
 }
 
 // Both in one call: advances, and tells the access that is next. The
@@ -208,15 +216,15 @@ pub extern "C" fn celadonsaw_step(
     write: &[u8],
     read: &mut [u8],
 ) -> Access
-    ensures { λ r. ⌜ Tells (now (words .exit)) (now (write .entry)) r ⌝ }
-    ensures { λ _. ⌜ Moves (now (kinds .entry)) (now (lengths .entry)) (now (words .entry)) value
+    ensures { λ r. ⌜ Tells false (now (words .exit)) (now (write .entry)) r ⌝ }
+    ensures { λ _. ⌜ Moves false (now (kinds .entry)) (now (lengths .entry)) [] (now (words .entry)) value
         (now (words .exit)) ⌝ }
-    ensures { λ _. ⌜ Stores (now (words .entry)) value (now (read .entry)) (now (read .exit)) ⌝ }
+    ensures { λ _. ⌜ Stores false (now (words .entry)) value (now (read .entry)) (now (read .exit)) ⌝ }
 {
     regs::access::keep(read, words_access::store(words, value));
     let code = words_steps::step(words, value);
     if code == 0 {
-        by_points(words, value, kinds, lengths);
+        by_points(words, value, false, kinds, lengths);
         let a = celadonsaw_next_access(words, write);
         // Field by field: then the access is put together in a register, and not in memory.
         return Access {
@@ -227,4 +235,107 @@ pub extern "C" fn celadonsaw_step(
         };
     }
     told_access(words_access::access_at(words, code / 8, code % 8, write))
+}
+
+// ---- with a packet error code
+
+// An access as it is told: the word with STOP of a write carries the code, and at the
+// end an accepted transfer is 22 where the code that came is not the message's.
+fn changed(code: &[u8; 2], a: Access) -> Access
+    ensures { λ r. ⌜ r ≡ told-by (sum-in (now (code .entry))) a ⌝ }
+{
+    if a.kind == 0 {
+        return Access {
+            kind: a.kind,
+            register: a.register,
+            number: words_code::number(code, a.number, a.value),
+            value: a.value,
+        };
+    }
+    if a.kind == 2 {
+        return Access {
+            kind: a.kind,
+            register: a.register,
+            number: a.number,
+            value: words_code::word(code, a.register, a.value),
+        };
+    }
+    a
+}
+
+// As `celadonsaw_start`, with a packet error code. All lengths are those of the data: the code
+// is in no buffer.
+#[no_mangle]
+pub extern "C" fn celadonsaw_start_pec(
+    words: &mut [u64; 20],
+    code: &mut [u8; 2],
+    form: u8,
+    address: u16,
+    kinds: &[u8],
+    lengths: &[u16],
+    written: usize,
+    room: usize,
+)
+    ensures { λ _. ⌜ Starts true form address (now (kinds .entry)) (now (lengths .entry)) written room
+        (now (words .exit), now (code .exit)) ⌝ }
+{
+    celadonsaw_start(words, form, address, kinds, lengths, written, room);
+    words_code::start(code);
+}
+
+// As `celadonsaw_next_access`, with a packet error code.
+#[no_mangle]
+pub extern "C" fn celadonsaw_next_access_pec(
+    words: &[u64; 20],
+    code: &[u8; 2],
+    write: &[u8],
+) -> Access
+    ensures { λ r. ⌜ Tells true (now (words .entry), now (code .entry)) (now (write .entry)) r ⌝ }
+{
+    changed(code, celadonsaw_next_access(words, write))
+}
+
+// As `celadonsaw_advance`, with a packet error code, which takes in the byte that was sent or
+// received. The code that is received has no place in `read`.
+#[no_mangle]
+pub extern "C" fn celadonsaw_advance_pec(
+    words: &mut [u64; 20],
+    code: &mut [u8; 2],
+    value: u32,
+    kinds: &[u8],
+    lengths: &[u16],
+    write: &[u8],
+    read: &mut [u8],
+)
+    ensures { λ _. ⌜ Moves true (now (kinds .entry)) (now (lengths .entry)) (now (write .entry))
+        (now (words .entry), now (code .entry)) value (now (words .exit), now (code .exit)) ⌝ }
+    ensures { λ _. ⌜ Stores true (now (words .entry), now (code .entry)) value (now (read .entry))
+        (now (read .exit)) ⌝ }
+{
+    let made = celadonsaw_next_access_pec(words, code, write);
+    let address = words::half(words[ADDRESS]);
+    words_code::feed(code, address, made.kind, made.register, made.value, value);
+    regs::access::keep(read, words_access::store(words, value));
+    by_points(words, value, true, kinds, lengths);
+}
+
+// As `celadonsaw_step`, with a packet error code: advances, and tells the access that is next.
+#[no_mangle]
+pub extern "C" fn celadonsaw_step_pec(
+    words: &mut [u64; 20],
+    code: &mut [u8; 2],
+    value: u32,
+    kinds: &[u8],
+    lengths: &[u16],
+    write: &[u8],
+    read: &mut [u8],
+) -> Access
+    ensures { λ r. ⌜ Tells true (now (words .exit), now (code .exit)) (now (write .entry)) r ⌝ }
+    ensures { λ _. ⌜ Moves true (now (kinds .entry)) (now (lengths .entry)) (now (write .entry))
+        (now (words .entry), now (code .entry)) value (now (words .exit), now (code .exit)) ⌝ }
+    ensures { λ _. ⌜ Stores true (now (words .entry), now (code .entry)) value (now (read .entry))
+        (now (read .exit)) ⌝ }
+{
+    celadonsaw_advance_pec(words, code, value, kinds, lengths, write, read);
+    celadonsaw_next_access_pec(words, code, write)
 }

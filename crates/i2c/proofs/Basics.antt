@@ -45,8 +45,12 @@ pub second : (a b : Bool) → (a && b) ≡ true → b ≡ true
 second true b e = e
 second false b e = absurd (true≢false (sym e))
 
--- a place within the limits does not wrap
-pub sum-is : (a n : ℕ) → a + n ≤ 4096 → (a + n) % 2 ^ 64 ≡ a + n
+-- the most bytes of one direction: the limit of a call, and one more where a packet error code goes with them
+abbrev pub MOST : ℕ
+MOST = 4097
+
+-- a place within them does not wrap
+pub sum-is : (a n : ℕ) → a + n ≤ MOST → (a + n) % 2 ^ 64 ≡ a + n
 sum-is a n h = omega arith
 
 -- what the machine knows of an abort, as the Rust's value
@@ -54,9 +58,9 @@ abbrev pub as-tried : T.Tried → Tried (Unit {0})
 as-tried Fine = ok tt
 as-tried (Failed r) = err r
 
-module _ (kinds lengths bytes : List ℕ) where
+module _ (coded : Bool) (kinds lengths bytes : List ℕ) where
   abbrev pub M : Machine
-  M = machine kinds lengths bytes
+  M = machine coded kinds lengths bytes
 
   -- the transfer t at a point, and where a step leads from there
   abbrev pub Agrees : ℕ → Transfer → List ℕ → Behaviour (Unit {0}) Answer → Type 0
@@ -70,7 +74,7 @@ module _ (kinds lengths bytes : List ℕ) where
 
   -- fn setup, where the address is in range
   pub setup-agrees : (t : Transfer) (m n : ℕ) (b : List ℕ) (k : Unit {0} → Behaviour (Unit {0}) Answer) → ltb (t .address) 0x80 ≡ true
-      → ((m′ : ℕ) → m′ < m → (p : Point) → Agrees m′ (begun kinds lengths (with-point t p)) b (k tt))
+      → ((m′ : ℕ) → m′ < m → (p : Point) → Agrees m′ (begun coded kinds lengths (with-point t p)) b (k tt))
       → Agrees m (with-point t (Setup Disable)) b (setup (t .address) n k)
   unfolding setup next-at next-setup step-of step-setup store-at
   setup-agrees t m n b k q next =
@@ -83,13 +87,13 @@ module _ (kinds lengths bytes : List ℕ) where
       → ((m′ : ℕ)
       → m′ < m
       → (p : Point)
-      → Agrees m′ (moved-to kinds lengths (with-point t p) (returned (t .len) (t .«send_stop») caller Fine)) b
+      → Agrees m′ (moved-to coded kinds lengths (with-point t p) (returned (t .len) (t .«send_stop») caller Fine)) b
       (k (ok tt)))
       → ((m′ : ℕ)
       → m′ < m
       → (p : Point) (r : AbortReason)
       → Agrees m′
-      (moved-to kinds lengths (with-point t p) (returned (t .len) (t .«send_stop») caller (Failed r))) b
+      (moved-to coded kinds lengths (with-point t p) (returned (t .len) (t .«send_stop») caller (Failed r))) b
       (k (err r)))
       → Agrees m (with-point t (Abort A.Source caller)) b (read-and-clear-abort-reason n k)
   unfolding read-and-clear-abort-reason next-at next-abort step-of step-abort store-at
@@ -108,7 +112,7 @@ module _ (kinds lengths bytes : List ℕ) where
 
   -- fn wait_stop_det: what follows an abort, and what follows none
   module _ (t : Transfer) (k : Tried (Unit {0}) → Behaviour (Unit {0}) Answer) (top n : ℕ)
-      (good : (m : ℕ) → m ≤ top → (p : Point) (b : List ℕ) → Agrees m (begun kinds lengths (with-point t p)) b (k (ok tt)))
+      (good : (m : ℕ) → m ≤ top → (p : Point) (b : List ℕ) → Agrees m (begun coded kinds lengths (with-point t p)) b (k (ok tt)))
       (bad : (m : ℕ)
       → m ≤ top
       → (b : List ℕ) (r : AbortReason)
@@ -153,14 +157,14 @@ module _ (kinds lengths bytes : List ℕ) where
           → m ≤ top
           → m ≤ n
           → (p : Point) (b : List ℕ)
-          → Agrees m (moved-to kinds lengths (with-point t p) (wait-stop stop Fine)) b
+          → Agrees m (moved-to coded kinds lengths (with-point t p) (wait-stop stop Fine)) b
           (wait-stop-det (ok tt) stop n k)
       unfolding wait-stop wait-stop-det
       wanted true m h l p b = polling Fine m h l b
       wanted false m h l p b = good m h p b
 
       pub stops-agree : (had : T.Tried) (m : ℕ) → m ≤ top → m ≤ n → (p : Point) (b : List ℕ)
-          → Agrees m (moved-to kinds lengths (with-point t p) (wait-stop (t .«send_stop») had)) b
+          → Agrees m (moved-to coded kinds lengths (with-point t p) (wait-stop (t .«send_stop») had)) b
           (wait-stop-det (as-tried had) (t .«send_stop») n k)
       unfolding wait-stop wait-stop-det
       stops-agree Fine m h l p b = wanted (t .«send_stop») m h l p b

@@ -1,5 +1,6 @@
 -- What both async transfers end with: `wait_stop_det`, then `?`.
 use Prim.Native.Nat.{ℕ, _≤_}
+use mathlib.Core.Bool.{Bool}
 use mathlib.Core.List.{List}
 use Rattle.regs.specs.Program.{Behaviour}
 use Rattle.regs.specs.declared.answers.Answer.{Answer}
@@ -16,10 +17,10 @@ use Rattle.i2c.proofs.Basics.{Agrees, as-tried, fails, stops-agree}
 abbrev pub ending : Transfer → (Unit {0} → Behaviour (Unit {0}) Answer) → ℕ → Tried (Unit {0}) → Behaviour (Unit {0}) Answer
 ending t k n r = wait-stop-det r (t .«send_stop») n (λ r. try r n k)
 
-module _ (kinds lengths bytes : List ℕ) where
+module _ (coded : Bool) (kinds lengths bytes : List ℕ) where
   -- the next operation, or the transfer's end, does what k does
   abbrev pub Good : Transfer → (Unit {0} → Behaviour (Unit {0}) Answer) → ℕ → Type 0
-  Good t k top = (m : ℕ) → m ≤ top → (p : Point) (b : List ℕ) → Agrees kinds lengths bytes m (begun kinds lengths (with-point t p)) b (k tt)
+  Good t k top = (m : ℕ) → m ≤ top → (p : Point) (b : List ℕ) → Agrees coded kinds lengths bytes m (begun coded kinds lengths (with-point t p)) b (k tt)
 
   pub ending-agrees : (t : Transfer) (k : Unit {0} → Behaviour (Unit {0}) Answer) (top n : ℕ)
       → Good t k top
@@ -27,7 +28,7 @@ module _ (kinds lengths bytes : List ℕ) where
       → m ≤ top
       → m ≤ n
       → (p : Point) (b : List ℕ)
-      → Agrees kinds lengths bytes m (moved-to kinds lengths (with-point t p) (wait-stop (t .«send_stop») had)) b
+      → Agrees coded kinds lengths bytes m (moved-to coded kinds lengths (with-point t p) (wait-stop (t .«send_stop») had)) b
       (ending t k n (as-tried had))
   ending-agrees t k top n good =
-      stops-agree kinds lengths bytes t (λ r. try r n k) top n good (λ m h b r. fails kinds lengths bytes t m b r)
+      stops-agree coded kinds lengths bytes t (λ r. try r n k) top n good (λ m h b r. fails coded kinds lengths bytes t m b r)

@@ -8,8 +8,12 @@ pub mod ReadsAsync
 pub mod WritesAsync
 pub mod Operations
 pub mod Listed
+pub mod ListedCoded
 pub mod Transfers
 pub mod Called
+pub mod CodedTransfers
+pub mod WithCode
 pub mod Sums
+pub mod Watching
 pub mod Bounds
 pub mod Stepped

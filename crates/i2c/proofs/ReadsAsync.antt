@@ -2,7 +2,7 @@
 use Prim.Native.Nat.{ℕ, zero, suc, _+_, _-_, _%_, _^_, _<_, _≤_, min}
 use native.Mathlib.Omega.{arith}
 use native.Mathlib.Nat.{le-refl, min-le-right, sub-zero}
-use mathlib.Core.Bool.{false}
+use mathlib.Core.Bool.{Bool, false}
 use mathlib.Core.List.{List}
 use mathlib.Core.Path.{_≡_, refl}
 use lib.Dec.{eqb, ltb}
@@ -30,32 +30,32 @@ use Rattle.transfer.specs.declared.RoundPoint.the-variants as Q
 use Rattle.transfer.specs.declared.Poll.the-variants as O
 use Rattle.transfer.specs.declared.Point.{Point}
 use Rattle.transfer.specs.declared.Point.the-variants.{ReadAsync}
-use Rattle.i2c.proofs.Basics.{sum-is, M, Agrees, reason-agrees, pend-agrees}
+use Rattle.i2c.proofs.Basics.{MOST, sum-is, M, Agrees, reason-agrees, pend-agrees}
 use Rattle.i2c.proofs.EndAsync.{Good, ending, ending-agrees}
 
 abbrev counted : ℕ → ℕ → ℕ → Round
 counted remaining queue batch = record { remaining = remaining; queue = queue; batch = batch }
 
-module _ (kinds lengths bytes : List ℕ) (t : Transfer) (n : ℕ) where
+module _ (coded : Bool) (kinds lengths bytes : List ℕ) (t : Transfer) (n : ℕ) where
   abbrev R : Machine
-  R = M kinds lengths bytes
+  R = M coded kinds lengths bytes
 
   abbrev Does : ℕ → Transfer → List ℕ → Behaviour (Unit {0}) Answer → Type 0
-  Does = Agrees kinds lengths bytes
+  Does = Agrees coded kinds lengths bytes
 
   -- where a round begins, from any point
   abbrev turn-at : Point → ℕ → ℕ → ℕ → Transfer
-  turn-at p remaining queue batch = moved-to kinds lengths (with-point t p) (next-turn (t .«send_stop») (counted remaining queue batch))
+  turn-at p remaining queue batch = moved-to coded kinds lengths (with-point t p) (next-turn (t .«send_stop») (counted remaining queue batch))
 
   -- the bytes that came are stored from `pos` on
   fetches : (left pos remaining queue batch m : ℕ) (k : Unit {0} → Behaviour (Unit {0}) Answer)
       → pos + left + remaining ≡ t .at + t .len
       → t .at ≤ pos
-      → t .at + t .len ≤ 4096
+      → t .at + t .len ≤ MOST
       → ((m′ : ℕ) → m′ ≤ m → (p : Point) (b : List ℕ) → Does m′ (turn-at p remaining queue batch) b (k tt))
       → (p : Point) (b : List ℕ)
       → Does m
-      (moved-to kinds lengths (with-point t p) (fetching (t .«send_stop») (counted remaining queue batch) left))
+      (moved-to coded kinds lengths (with-point t p) (fetching (t .«send_stop») (counted remaining queue batch) left))
       b (fetch-bytes pos left n k)
   unfolding fetch-bytes fetching next-at next-round store-at store-round step-of step-round
   fetches zero pos remaining queue batch m k e from fits next p b = next m (le-refl m) p b
@@ -74,7 +74,7 @@ module _ (kinds lengths bytes : List ℕ) (t : Transfer) (n : ℕ) where
   queues : (words remaining queue batch m : ℕ) (k : Unit {0} → Behaviour (Unit {0}) Answer)
       → ((m′ : ℕ) → m′ ≤ m → (b : List ℕ) → Does m′ (with-point t (ReadAsync (Q.Level (counted remaining (queue - words) batch)))) b (k tt))
       → (p : Point) (b : List ℕ)
-      → Does m (moved-to kinds lengths (with-point t p) (queued (counted remaining queue batch) words)) b
+      → Does m (moved-to coded kinds lengths (with-point t p) (queued (counted remaining queue batch) words)) b
       (queue-batch (t .len) (t .restart) (t .«send_stop») words queue n k)
   unfolding queue-batch queued queue-word next-at next-round store-at store-round step-of step-round
   queues zero remaining queue batch m k next p b = rw (sub-zero queue) at (next m (le-refl m) b)
@@ -86,8 +86,8 @@ module _ (kinds lengths bytes : List ℕ) (t : Transfer) (n : ℕ) where
       (queues words remaining (queue - 1) batch m₁ k (λ m₂ l₂ b. rw e at (next m₂ (omega arith) b))
       (ReadAsync (Q.Queue (counted remaining queue batch) (suc words))) b)))
 
-  module _ (k : Unit {0} → Behaviour (Unit {0}) Answer) (top : ℕ) (good : Good kinds lengths bytes t k top)
-      (fits : t .at + t .len ≤ 4096) where
+  module _ (k : Unit {0} → Behaviour (Unit {0}) Answer) (top : ℕ) (good : Good coded kinds lengths bytes t k top)
+      (fits : t .at + t .len ≤ MOST) where
     -- the rounds after this one
     abbrev Back : ℕ → (Counts → Behaviour (Unit {0}) Answer) → Type 0
     Back m next = (m′ : ℕ)
@@ -113,18 +113,18 @@ module _ (kinds lengths bytes : List ℕ) (t : Transfer) (n : ℕ) where
         loop-agree R n _ _ (λ x y. with-point t (ReadAsync (Q.Level (counted remaining queue batch))))
         (λ (x : Unit {0}) (y : Unit {0}). Unit {0}) n m l
         (λ m₁ l₁ x y b u turn again. reads-agree R m₁ refl
-        (λ m₂ l₂ v. reason-agrees kinds lengths bytes t (C.Batch (counted remaining queue batch) (level v)) m₂ n
+        (λ m₂ l₂ v. reason-agrees coded kinds lengths bytes t (C.Batch (counted remaining queue batch) (level v)) m₂ n
         b _
         (λ m₃ l₃ p. by-test (ltb (level v) batch)
         (λ q. rw q (writes-agree R m₃ refl
-        (λ m₄ l₄. pend-agrees kinds lengths bytes t (O.Batch (counted remaining queue batch)) m₄ b _
+        (λ m₄ l₄. pend-agrees coded kinds lengths bytes t (O.Batch (counted remaining queue batch)) m₄ b _
         (λ m₅ l₅. again m₅ (omega arith) tt tt b tt))))
         (λ q. rw q (
         let w : min (level v) remaining ≤ remaining = min-le-right (level v) remaining in
         fetches (min (level v) remaining) (t .at + (t .len - remaining)) (remaining - min (level v) remaining) queue
         batch m₃ _ (omega arith) (omega arith) fits
         (λ m₄ l₄ p b. back m₄ (omega arith) (remaining - min (level v) remaining) queue batch p b (omega arith)) p b)))
-        (λ m₃ l₃ p r. ending-agrees kinds lengths bytes t k top n good (Failed r) m₃ (omega arith) (omega arith) p b))) tt tt b tt
+        (λ m₃ l₃ p r. ending-agrees coded kinds lengths bytes t k top n good (Failed r) m₃ (omega arith) (omega arith) p b))) tt tt b tt
 
     -- a round, where bytes remain and where none does
     turns : (remaining queue batch m : ℕ)
@@ -137,7 +137,7 @@ module _ (kinds lengths bytes : List ℕ) (t : Transfer) (n : ℕ) where
         (read-round (t .at) (t .len) (t .restart) (t .«send_stop»)
         (record { remaining = remaining; remaining-queue = queue }) n (λ w. by-turn w next (ending t k n)))
     unfolding tx-fifo-capacity next-turn next-at next-round store-at store-round step-of step-round places batch-step
-    turns zero queue batch m h l p b next some back = ending-agrees kinds lengths bytes t k top n good Fine m h l p b
+    turns zero queue batch m h l p b next some back = ending-agrees coded kinds lengths bytes t k top n good Fine m h l p b
     turns (suc remaining) queue batch m h l p b next some back =
         rw (ne-eqb (suc remaining) 0 (λ z. omega arith), lt-ltb 0 (suc remaining) (omega arith))
         (reads-agree R m refl (λ m₁ l₁ v. by-test (ltb 16 (level v))
@@ -147,27 +147,27 @@ module _ (kinds lengths bytes : List ℕ) (t : Transfer) (n : ℕ) where
         (omega arith) (omega arith) b next some (λ m₃ l₃. back m₃ (omega arith)))
         (ReadAsync (Q.Capacity (counted (suc remaining) queue batch))) b))))
 
-module _ (kinds lengths bytes : List ℕ) where
+module _ (coded : Bool) (kinds lengths bytes : List ℕ) where
   pub read-async-agrees : (t : Transfer) (k : Unit {0} → Behaviour (Unit {0}) Answer) (top n m : ℕ)
       → m ≤ top
       → m ≤ n
       → 0 < t .len
-      → t .at + t .len ≤ 4096
-      → Good kinds lengths bytes t k top
+      → t .at + t .len ≤ MOST
+      → Good coded kinds lengths bytes t k top
       → (b : List ℕ)
-      → Agrees kinds lengths bytes m (with-point t (some-read Async (t .len))) b
+      → Agrees coded kinds lengths bytes m (with-point t (some-read Async (t .len))) b
       (read-async-internal (t .at) (t .len) (t .restart) (t .«send_stop») n k)
   unfolding read-async-internal some-read next-turn
   read-async-agrees t k top n m h l some fits good b =
       let z : eqb (t .len) 0 ≡ false = ne-eqb (t .len) 0 (λ e. omega arith) in
-      let whole : Agrees kinds lengths bytes m (turn-at kinds lengths bytes t n (t .point) (t .len) (t .len) 0) b
+      let whole : Agrees coded kinds lengths bytes m (turn-at coded kinds lengths bytes t n (t .point) (t .len) (t .len) 0) b
       (rounds n n (read-round (t .at) (t .len) (t .restart) (t .«send_stop»))
       (record { remaining = t .len; remaining-queue = t .len }) (ending t k n))
-      = loop-agree (M kinds lengths bytes) n _ _
-      (λ (x : Counts) (y : Point × ℕ). turn-at kinds lengths bytes t n (y .0) (x .remaining)
+      = loop-agree (M coded kinds lengths bytes) n _ _
+      (λ (x : Counts) (y : Point × ℕ). turn-at coded kinds lengths bytes t n (y .0) (x .remaining)
       (x .remaining-queue) (y .1))
       (λ x y. x .remaining ≤ t .len) n m l
-      (λ m₁ l₁ x y b some next back. turns kinds lengths bytes t n k top good fits (x .remaining)
+      (λ m₁ l₁ x y b some next back. turns coded kinds lengths bytes t n k top good fits (x .remaining)
       (x .remaining-queue) (y .1) m₁ (omega arith) (omega arith) (y .0) b next some
       (λ m₂ l₂ remaining queue batch p b some. back m₂ l₂ (record { remaining = remaining; remaining-queue = queue }) (p, batch) b some))
       (record { remaining = t .len; remaining-queue = t .len }) (t .point, 0) b (le-refl (t .len)) in

@@ -1,7 +1,7 @@
 -- The machine's points of an async write do what `write_async_internal` does.
 use Prim.Native.Nat.{ℕ, zero, suc, _+_, _-_, _<_, _≤_}
 use native.Mathlib.Omega.{arith}
-use mathlib.Core.Bool.{true}
+use mathlib.Core.Bool.{Bool, true}
 use mathlib.Core.List.{List, [], _∷_}
 use mathlib.Core.Path.{_≡_, refl}
 use lib.Dec.{eqb, ltb}
@@ -32,13 +32,13 @@ use Rattle.i2c.proofs.Basics.{M, Agrees, reason-agrees, pend-agrees}
 use Rattle.i2c.proofs.Bytes.{Held, held-head, held-end, held-last}
 use Rattle.i2c.proofs.EndAsync.{Good, ending, ending-agrees}
 
-module _ (kinds lengths bytes : List ℕ) (t : Transfer) (k : Unit {0} → Behaviour (Unit {0}) Answer) (top n : ℕ)
-    (good : Good kinds lengths bytes t k top) where
+module _ (coded : Bool) (kinds lengths bytes : List ℕ) (t : Transfer) (k : Unit {0} → Behaviour (Unit {0}) Answer) (top n : ℕ)
+    (good : Good coded kinds lengths bytes t k top) where
   abbrev W : Machine
-  W = M kinds lengths bytes
+  W = M coded kinds lengths bytes
 
   abbrev Does : ℕ → Transfer → List ℕ → Behaviour (Unit {0}) Answer → Type 0
-  Does = Agrees kinds lengths bytes
+  Does = Agrees coded kinds lengths bytes
 
   -- the rounds after this one
   abbrev Back : ℕ → (List ℕ → Behaviour (Unit {0}) Answer) → Type 0
@@ -62,15 +62,15 @@ module _ (kinds lengths bytes : List ℕ) (t : Transfer) (k : Unit {0} → Behav
       full-step returned mask-for poll-point
   waits i rest m h l b next held back =
       loop-agree W n _ _ (λ x y. with-point t (Abort A.Source (C.Space i))) (λ (x : Unit {0}) (y : Unit {0}). Unit {0}) n m l
-      (λ m₁ l₁ x y b u turn again. reason-agrees kinds lengths bytes t (C.Space i) m₁ n b _
+      (λ m₁ l₁ x y b u turn again. reason-agrees coded kinds lengths bytes t (C.Space i) m₁ n b _
       (λ m₂ l₂ p. reads-agree W m₂ refl (λ m₃ l₃ v. by-test (ltb 16 (level v))
       (λ q. rw q (ends-agree W m₃ refl))
       (λ q. rw q (by-test (eqb (16 - level v) 0)
       (λ z. rw z (writes-agree W m₃ refl
-      (λ m₄ l₄. pend-agrees kinds lengths bytes t (O.Space i) m₄ b _
+      (λ m₄ l₄. pend-agrees coded kinds lengths bytes t (O.Space i) m₄ b _
       (λ m₅ l₅. again m₅ (omega arith) tt tt b tt))))
       (λ z. rw z (back m₃ (omega arith) rest i b held))))))
-      (λ m₂ l₂ p r. ending-agrees kinds lengths bytes t k top n good (Failed r) m₂ (omega arith) (omega arith) p b)) tt tt b tt
+      (λ m₂ l₂ p r. ending-agrees coded kinds lengths bytes t k top n good (Failed r) m₂ (omega arith) (omega arith) p b)) tt tt b tt
 
   -- the free places are filled
   fills : (space : ℕ) (rest : List ℕ) (i m : ℕ)
@@ -79,14 +79,14 @@ module _ (kinds lengths bytes : List ℕ) (t : Transfer) (k : Unit {0} → Behav
       → (p : Point) (b : List ℕ) (next : List ℕ → Behaviour (Unit {0}) Answer)
       → Held bytes t rest i
       → Back m next
-      → Does m (moved-to kinds lengths (with-point t p) (filling (t .len) (t .«send_stop») i space)) b
+      → Does m (moved-to coded kinds lengths (with-point t p) (filling (t .len) (t .«send_stop») i space)) b
       (fill (t .«send_stop») space rest n (λ f. wait-space f n (λ w. by-turn w next (ending t k n))))
   unfolding fill filling next-at next-fill fill-word store-at step-of step-fill after-index
   fills zero rest i m h l p b next held back = waits i rest m h l b next held back
   fills (suc space) [] i m h l p b next held back =
       let e : i ≡ t .len = held-end bytes t i held in
       rw (ne-eqb (suc space) 0 (λ z. omega arith), le-ltb i (t .len) (omega arith))
-      (ending-agrees kinds lengths bytes t k top n good Fine m h l p b)
+      (ending-agrees coded kinds lengths bytes t k top n good Fine m h l p b)
   fills (suc space) (byte ∷ rest) i m h l p b next held back =
       let c : (getD bytes (t .at + i) 0 ≡ byte) × (Held bytes t rest (i + 1) × (i < t .len)) = held-head bytes t byte rest i held in
       let e : getD bytes (t .at + i) 0 ≡ byte = c .0 in
@@ -97,20 +97,20 @@ module _ (kinds lengths bytes : List ℕ) (t : Transfer) (k : Unit {0} → Behav
       (λ m₁ l₁. rw (z, g) (fills space rest (i + 1) m₁ (omega arith) (omega arith)
       (WriteAsync (F.Fill i (suc space))) b next (c .1 .0) (λ m₂ l₂. back m₂ (omega arith)))))
 
-module _ (kinds lengths bytes : List ℕ) where
+module _ (coded : Bool) (kinds lengths bytes : List ℕ) where
   pub write-async-agrees : (t : Transfer) (k : Unit {0} → Behaviour (Unit {0}) Answer) (top n m : ℕ)
       → m ≤ top
       → m ≤ n
       → (ws : List ℕ)
       → Held bytes t ws 0
-      → Good kinds lengths bytes t k top
+      → Good coded kinds lengths bytes t k top
       → (b : List ℕ)
-      → Agrees kinds lengths bytes m (with-point t (WriteAsync (F.Free 0))) b (write-async-internal ws (t .«send_stop») n k)
+      → Agrees coded kinds lengths bytes m (with-point t (WriteAsync (F.Free 0))) b (write-async-internal ws (t .«send_stop») n k)
   unfolding write-async-internal tx-fifo-capacity next-at next-fill store-at step-of step-fill places free-step
   write-async-agrees t k top n m h l ws held good b =
-      loop-agree (M kinds lengths bytes) n _ _ (λ rest i. with-point t (WriteAsync (F.Free i))) (λ rest i. Held bytes t rest i) n m l
-      (λ m₁ l₁ rest i b held next back. reads-agree (M kinds lengths bytes) m₁ refl (λ m₂ l₂ v. by-test (ltb 16 (level v))
-      (λ q. rw q (ends-agree (M kinds lengths bytes) m₂ refl))
-      (λ q. rw q (fills kinds lengths bytes t k top n good (16 - level v) rest i m₂ (omega arith) (omega arith)
+      loop-agree (M coded kinds lengths bytes) n _ _ (λ rest i. with-point t (WriteAsync (F.Free i))) (λ rest i. Held bytes t rest i) n m l
+      (λ m₁ l₁ rest i b held next back. reads-agree (M coded kinds lengths bytes) m₁ refl (λ m₂ l₂ v. by-test (ltb 16 (level v))
+      (λ q. rw q (ends-agree (M coded kinds lengths bytes) m₂ refl))
+      (λ q. rw q (fills coded kinds lengths bytes t k top n good (16 - level v) rest i m₂ (omega arith) (omega arith)
       (WriteAsync (F.Free i)) b next held (λ m₃ l₃. back m₃ (omega arith))))))
       ws 0 b held

@@ -43,11 +43,11 @@ not-both true true e q = true≢false e
 not-both true false e q = true≢false (sym q)
 not-both false b e q = true≢false (sym q)
 
-module _ (kinds lengths bytes : List ℕ) (t : Transfer) (k : Unit {0} → Behaviour (Unit {0}) Answer) (top n : ℕ)
+module _ (coded : Bool) (kinds lengths bytes : List ℕ) (t : Transfer) (k : Unit {0} → Behaviour (Unit {0}) Answer) (top n : ℕ)
     (good : (m : ℕ)
     → m ≤ top
     → (p : Point) (b : List ℕ)
-    → Agrees kinds lengths bytes m (begun kinds lengths (with-point t p)) b (k tt))
+    → Agrees coded kinds lengths bytes m (begun coded kinds lengths (with-point t p)) b (k tt))
   where
     abbrev bytes-from : ℕ → List ℕ → Behaviour (Unit {0}) Answer
     bytes-from i rest = write-blocking-bytes (t .len) (t .«send_stop») i rest n k
@@ -57,16 +57,16 @@ module _ (kinds lengths bytes : List ℕ) (t : Transfer) (k : Unit {0} → Behav
         → ((m′ : ℕ)
         → m′ < m
         → (p : Point) (b : List ℕ)
-        → Agrees kinds lengths bytes m′ (moved-to kinds lengths (with-point t p) (try-step r)) b rest)
-        → Agrees kinds lengths bytes m (with-point t (WriteBlocking (W.StopDet r))) b
+        → Agrees coded kinds lengths bytes m′ (moved-to coded kinds lengths (with-point t p) (try-step r)) b rest)
+        → Agrees coded kinds lengths bytes m (with-point t (WriteBlocking (W.StopDet r))) b
         (while RAW-INTR-STAT (λ stat. not (stop-det stat)) skip n (λ _. reads CLR-STOP-DET (λ _. rest)))
     unfolding next-at next-write next-stop store-at step-of step-write step-stop
     stops r rest m l b next =
-        while-agree (M kinds lengths bytes) (with-point t (WriteBlocking (W.StopDet r))) n RAW-INTR-STAT
+        while-agree (M coded kinds lengths bytes) (with-point t (WriteBlocking (W.StopDet r))) n RAW-INTR-STAT
         (λ stat. not (stop-det stat)) skip _ refl n m l b
         (λ m₁ l₁ b again back v q. rw (not-true (stop-det v) q) (back m₁ (omega arith) b))
         (λ m₁ l₁ b v q. rw (not-false (stop-det v) q)
-        (reads-agree (M kinds lengths bytes) m₁ refl (λ m₂ l₂ w. next m₂ (omega arith) (Stop (S.Clear r)) b)))
+        (reads-agree (M coded kinds lengths bytes) m₁ refl (λ m₂ l₂ w. next m₂ (omega arith) (Stop (S.Clear r)) b)))
 
     -- what follows the abort's source, for byte i with `rest` after it
     abbrev settles : ℕ → List ℕ → Tried (Unit {0}) → Behaviour (Unit {0}) Answer
@@ -80,24 +80,24 @@ module _ (kinds lengths bytes : List ℕ) (t : Transfer) (k : Unit {0} → Behav
         → ((m′ : ℕ)
         → m′ < m
         → (p : Point) (b : List ℕ)
-        → Agrees kinds lengths bytes m′
-        (moved-to kinds lengths (with-point t p) (returned (t .len) (t .«send_stop») (C.Write i) Fine)) b
+        → Agrees coded kinds lengths bytes m′
+        (moved-to coded kinds lengths (with-point t p) (returned (t .len) (t .«send_stop») (C.Write i) Fine)) b
         (settles i rest (ok tt)))
-        → Agrees kinds lengths bytes m (with-point t (WriteBlocking (W.Send i))) b (bytes-from i (byte ∷ rest))
+        → Agrees coded kinds lengths bytes m (with-point t (WriteBlocking (W.Send i))) b (bytes-from i (byte ∷ rest))
     unfolding write-blocking-bytes next-at next-write write-word store-at step-of step-write returned try-step
     sends byte rest i m h l b held next =
         rw (← held-head bytes t byte rest i held .0)
-        (writes-agree (M kinds lengths bytes) m refl (λ m₁ l₁.
-        while-agree (M kinds lengths bytes) (with-point t (WriteBlocking (W.Empty i))) n RAW-INTR-STAT
+        (writes-agree (M coded kinds lengths bytes) m refl (λ m₁ l₁.
+        while-agree (M coded kinds lengths bytes) (with-point t (WriteBlocking (W.Empty i))) n RAW-INTR-STAT
         (λ stat. not (tx-empty stat)) skip _ refl n m₁ (omega arith) b
         (λ m₂ l₂ b again back v q. rw (not-true (tx-empty v) q) (back m₂ (omega arith) b))
-        (λ m₂ l₂ b v q. rw (not-false (tx-empty v) q) (reason-agrees kinds lengths bytes t (C.Write i) m₂ n b _
+        (λ m₂ l₂ b v q. rw (not-false (tx-empty v) q) (reason-agrees coded kinds lengths bytes t (C.Write i) m₂ n b _
         (λ m₃ l₃ p. next m₃ (omega arith) p b)
-        (λ m₃ l₃ p r. stops (Failed r) _ m₃ (omega arith) b (λ m₄ l₄ p b. fails kinds lengths bytes t m₄ b r))))))
+        (λ m₃ l₃ p r. stops (Failed r) _ m₃ (omega arith) b (λ m₄ l₄ p b. fails coded kinds lengths bytes t m₄ b r))))))
 
     -- the bytes from byte i on, of which there is one at least
     bytes-agree : (byte : ℕ) (rest : List ℕ) (i m : ℕ) → m ≤ top → m ≤ n → (b : List ℕ) → Held bytes t (byte ∷ rest) i
-        → Agrees kinds lengths bytes m (with-point t (WriteBlocking (W.Send i))) b (bytes-from i (byte ∷ rest))
+        → Agrees coded kinds lengths bytes m (with-point t (WriteBlocking (W.Send i))) b (bytes-from i (byte ∷ rest))
     unfolding write-blocking-bytes returned closes try-step
     bytes-agree byte [] i m h l b held =
         let e : i + 1 ≡ t .len = held .sum in
@@ -112,7 +112,7 @@ module _ (kinds lengths bytes : List ℕ) (t : Transfer) (k : Unit {0} → Behav
         (bytes-agree next rest (i + 1) m₁ (omega arith) (omega arith) b (held-head bytes t byte (next ∷ rest) i held .1 .0))))
 
     pub write-blocking-agrees : (ws : List ℕ) (m : ℕ) → m ≤ top → m ≤ n → (b : List ℕ) → Held bytes t ws 0 → 0 < t .len
-        → Agrees kinds lengths bytes m (with-point t (WriteBlocking (W.Send 0))) b (write-blocking-internal ws (t .«send_stop») n k)
+        → Agrees coded kinds lengths bytes m (with-point t (WriteBlocking (W.Send 0))) b (write-blocking-internal ws (t .«send_stop») n k)
     unfolding write-blocking-internal
     write-blocking-agrees [] m h l b held pos = absurd (omega (arith, held .sum))
     write-blocking-agrees (byte ∷ ws) m h l b held pos =

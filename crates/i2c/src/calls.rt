@@ -25,7 +25,7 @@ fn read_by(mode: Mode, address: u16, read: &mut [u8], readings: &[u32], log: &mu
         let kinds = [0u8];
         let lengths = [n as u16];
         let t = transfer_steps::start(mode, true, address, &kinds);
-        drive(t, &kinds, &lengths, b"", readings, log, read)
+        drive(t, false, &kinds, &lengths, b"", readings, log, read)
     } else {
         refuse()
     }
@@ -43,7 +43,7 @@ fn write_by(mode: Mode, address: u16, write: &[u8], readings: &[u32], log: &mut 
         let lengths = [n as u16];
         let mut none = [0u8; 0];
         let t = transfer_steps::start(mode, true, address, &kinds);
-        drive(t, &kinds, &lengths, write, readings, log, &mut none)
+        drive(t, false, &kinds, &lengths, write, readings, log, &mut none)
     } else {
         refuse()
     }
@@ -68,7 +68,7 @@ fn write_read_by(
         let kinds = [1u8, 0u8];
         let lengths = [m as u16, n as u16];
         let t = transfer_steps::start(mode, true, address, &kinds);
-        drive(t, &kinds, &lengths, write, readings, log, read)
+        drive(t, false, &kinds, &lengths, write, readings, log, read)
     } else {
         refuse()
     }
@@ -92,7 +92,7 @@ fn transaction_by(
 {
     if is_listed(kinds, lengths, write.len(), read.len()) {
         let t = transfer_steps::start(mode, false, address, kinds);
-        drive(t, kinds, lengths, write, readings, log, read)
+        drive(t, false, kinds, lengths, write, readings, log, read)
     } else {
         refuse()
     }

@@ -14,6 +14,7 @@ use Rattle.regs.specs.Answers.{number}
 use Rattle.regs.specs.Left.{no-access, Untouched}
 use Rattle.regs.specs.Program.{Behaviour, ends, reads, writes, marks, stores, asks, keeps, cut, Outcome, outcome, rounds, when}
 use Rattle.regs.specs.Program.{exit, return, _>>_, _>>=_}
+use Rattle.regs.specs.Watched.{watched-from}
 use Rattle.regs.specs.declared.access.Entry.{Entry}
 use Rattle.regs.specs.declared.answers.Answer.{Answer}
 use Rattle.regs.specs.declared.answers.Answer.the-variants.{Accepted, Heard, Refused}
@@ -26,6 +27,7 @@ use Rattle.master.specs.Operations as Op
 use Rattle.master.specs.Operations.{Transfer, Mode, blocking, async, operations-of, fits, lists, listed}
 use Rattle.master.specs.Transfer.{within, transfer, each-operation, blocking-read, blocking-write, blocking-write-read}
 use Rattle.master.specs.Transfer.{blocking-transaction, read-async, write-async, write-read-async, transaction-async}
+use Rattle.master.specs.Coded.{with-code, ends-in-read, coder, each-coded, longer-transfer, coded}
 use Rattle.master.specs.Calls as Master
 use Rattle.master.specs.Calls.{Lent, reads-into, writes-from, writes-then-reads, transacts}
 use Rattle.slave.specs.I2cSlave.{answer, is-some, reset, reset-call, listen, listen-call, respond-to-read, respond-to-read-call}
@@ -34,7 +36,7 @@ use Rattle.slave.specs.Calls as Slave
 use Rattle.slave.specs.Calls.{resets, listens, responds, fills, responds-and-fills}
 use Rattle.slave.specs.declared.SlaveState.{SlaveState}
 use Rattle.laws.specs.Calls.{clock, master, slave, buffer-in}
-use Rattle.laws.specs.Causes.{_numbered_, idle, slave-rows, rows, first, NumberedBy, FirstCause}
+use Rattle.laws.specs.Causes.{_numbered_, idle, slave-rows, master-rows, rows, first, NumberedBy, FirstCause}
 use Rattle.laws.proofs.Left.{nothing-touched}
 
 -- t ends at once, with this number
@@ -157,14 +159,51 @@ within-opens : (limits : Bool) (mode : Mode) (address : ℕ) (x : Transfer ℕ) 
 within-opens true mode address x n = transfer-opens mode address x n
 within-opens false mode address x n = refl
 
-master-opens : (mode : Mode) (address : ℕ) (l : Lent) (n : ℕ)
-    → OpensAs (first (rows (master (record { mode = mode; address = address; lent = l })) tt)) tt (Master.program-of mode address l n ends)
-master-opens mode address (reads-into buffer) n = within-opens (fits (length buffer)) mode address (Op.read (length buffer)) n
-master-opens mode address (writes-from bytes) n = within-opens (fits (length bytes)) mode address (Op.write bytes) n
-master-opens mode address (writes-then-reads bytes buffer) n =
+plain-opens : (mode : Mode) (address : ℕ) (l : Lent) (n : ℕ)
+    → OpensAs (first (master-rows mode address l)) tt (Master.program-of mode address l n ends)
+plain-opens mode address (reads-into buffer) n = within-opens (fits (length buffer)) mode address (Op.read (length buffer)) n
+plain-opens mode address (writes-from bytes) n = within-opens (fits (length bytes)) mode address (Op.write bytes) n
+plain-opens mode address (writes-then-reads bytes buffer) n =
     within-opens (fits (length bytes) && fits (length buffer)) mode address (Op.write-read bytes (length buffer)) n
-master-opens mode address (transacts kinds lengths bytes buffer) n =
+plain-opens mode address (transacts kinds lengths bytes buffer) n =
     within-opens (lists kinds lengths (length bytes) (length buffer)) mode address (Op.transaction (listed kinds lengths bytes)) n
+
+-- with a packet error code
+
+watched-setup : (address : ℕ) (os : List (Op.Operation ℕ)) (n : ℕ) (k : Unit {0} → Behaviour (Unit {0}) Answer)
+    → OpensAs (first ((not (ltb address 0x80) numbered 6) ∷ [])) tt (watched-from (coder address os) ends [] (setup address n k))
+unfolding setup watched-from
+watched-setup address os n k = by-test (ltb address 0x80) (λ q. rw q tt) (λ q. rw q refl)
+
+coded-opens : (mode : Mode) (address : ℕ) (x : Transfer ℕ) (n : ℕ)
+    → OpensAs (first ((not (idle mode (operations-of x)) && not (ltb address 0x80) numbered 6) ∷ [])) tt (coded mode address x n ends)
+unfolding longer-transfer each-coded with-code ends-in-read watched-from
+coded-opens blocking address (Op.read len) n = watched-setup address (operations-of (Op.read len)) n _
+coded-opens blocking address (Op.write bs) n = watched-setup address (operations-of (Op.write bs)) n _
+coded-opens blocking address (Op.write-read bs len) n = watched-setup address (operations-of (Op.write-read bs len)) n _
+coded-opens blocking address (Op.transaction os) n = watched-setup address os n _
+coded-opens async address (Op.read len) n = watched-setup address (operations-of (Op.read len)) n _
+coded-opens async address (Op.write bs) n = watched-setup address (operations-of (Op.write bs)) n _
+coded-opens async address (Op.write-read bs len) n = watched-setup address (operations-of (Op.write-read bs len)) n _
+coded-opens async address (Op.transaction []) n = idle-opens (ltb address 0x80)
+coded-opens async address (Op.transaction (o ∷ [])) n = watched-setup address (o ∷ []) n _
+coded-opens async address (Op.transaction (o ∷ (p ∷ os))) n = watched-setup address (o ∷ (p ∷ os)) n _
+
+coded-within : (limits : Bool) (mode : Mode) (address : ℕ) (x : Transfer ℕ) (n : ℕ)
+    → OpensAs (first ((not limits numbered 20) ∷ (not (idle mode (operations-of x)) && not (ltb address 0x80) numbered 6) ∷ []))
+    tt (within limits (coded mode address x) n ends)
+coded-within true mode address x n = coded-opens mode address x n
+coded-within false mode address x n = refl
+
+master-opens : (pec : Bool) (mode : Mode) (address : ℕ) (l : Lent) (n : ℕ)
+    → OpensAs (first (master-rows mode address l)) tt (Master.program-by pec mode address l n ends)
+master-opens false mode address l n = plain-opens mode address l n
+master-opens true mode address (reads-into buffer) n = coded-within (fits (length buffer)) mode address (Op.read (length buffer)) n
+master-opens true mode address (writes-from bytes) n = coded-within (fits (length bytes)) mode address (Op.write bytes) n
+master-opens true mode address (writes-then-reads bytes buffer) n =
+    coded-within (fits (length bytes) && fits (length buffer)) mode address (Op.write-read bytes (length buffer)) n
+master-opens true mode address (transacts kinds lengths bytes buffer) n =
+    coded-within (lists kinds lengths (length bytes) (length buffer)) mode address (Op.transaction (listed kinds lengths bytes)) n
 
 listen-opens : (no-place : Bool) (L n : ℕ) (me : SlaveState) → OpensAs (first ((no-place numbered 17) ∷ [])) me
     ((when no-place (exit (Refused NoPlaceForPending)) >> (listen L >>= (λ r. return (answer Heard r)))) n ends)
@@ -197,7 +236,7 @@ first-cause (clock frequency clk) log readings me =
     (nothing-touched (clock frequency clk) log readings me)
 first-cause (master c) log readings me =
     number-is (first (rows (master c) me)) _ (length log / 2) readings (buffer-in (master c)) tt
-    (master-opens (c .mode) (c .address) (c .lent) _) (nothing-touched (master c) log readings me)
+    (master-opens (c .pec) (c .mode) (c .address) (c .lent) _) (nothing-touched (master c) log readings me)
 first-cause (slave c) log readings me =
     number-is (first (rows (slave c) me)) _ (length log / 2) readings (buffer-in (slave c)) me
     (slave-opens c me _) (nothing-touched (slave c) log readings me)

@@ -11,7 +11,7 @@ use Rattle.regs.specs.Answers.{number}
 use Rattle.regs.specs.Left.{no-access}
 use Rattle.regs.specs.declared.answers.Reply.{Reply}
 use Rattle.master.specs.Operations.{Operation, Mode, blocking, async}
-use Rattle.master.specs.Calls.{within-limits, operations-in}
+use Rattle.master.specs.Calls.{Lent, within-limits, operations-in}
 use Rattle.slave.specs.I2cSlave.{is-some}
 use Rattle.slave.specs.Calls as Slave
 use Rattle.slave.specs.Calls.{resets, listens, responds, fills, responds-and-fills}
@@ -33,6 +33,11 @@ idle blocking os = false
 idle async [] = true
 idle async (o ∷ os) = false
 
+-- the same with a packet error code as without: the limits are those of the data
+abbrev pub master-rows : Mode → ℕ → Lent → List Row
+master-rows mode address lent =
+    (not (within-limits lent) numbered 20) ∷ (not (idle mode (operations-in lent)) && not (ltb address 0x80) numbered 6) ∷ []
+
 abbrev pub slave-rows : Slave.Call → SlaveState → List Row
 slave-rows (resets address general-call) me = (eqb address 0 numbered 16) ∷ []
 slave-rows (listens buffer) me =
@@ -43,9 +48,7 @@ slave-rows (responds-and-fills bytes fill) me = (ltb 4096 (length bytes) numbere
 
 abbrev pub rows : (c : Call) → State c → List Row
 rows (clock frequency clk) me = (ltb 1000000 frequency numbered 1) ∷ (eqb frequency 0 numbered 2) ∷ (ltb 1431655765 clk numbered 3) ∷ []
-rows (master c) me =
-    (not (within-limits (c .lent)) numbered 20)
-    ∷ (not (idle (c .mode) (operations-in (c .lent))) && not (ltb (c .address) 0x80) numbered 6) ∷ []
+rows (master c) me = master-rows (c .mode) (c .address) (c .lent)
 rows (slave c) me = slave-rows c me
 
 -- the number of the first row that applies, 0 where none does

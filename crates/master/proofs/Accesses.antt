@@ -2,16 +2,25 @@
 -- found along each function (`legal`), blocking and async together.
 use Prim.Native.Nat.{ℕ, zero, suc, _+_, _-_}
 use lib.Dec.{eqb, ltb}
+use borrow.Author.Tests.{eqb-true}
 use mathlib.Core.Bool.{Bool, true, false, not, _||_}
 use mathlib.Core.List.{List, [], _∷_}
-use Rattle.regs.specs.Registers.{INTR-MASK}
+use mathlib.Core.Path.{_≡_, refl}
+use Rattle.regs.specs.Registers.{INTR-MASK, DATA-CMD}
 use Rattle.regs.specs.Fields.{set-m-tx-abrt, set-m-stop-det}
-use Rattle.regs.specs.Program.{if_then_else_, modify, ok, err, done, pending, ready}
+use Rattle.regs.specs.Program.{if_then_else_, modify, ok, err, done, pending, ready, ends}
 use Rattle.regs.specs.declared.answers.AbortReason.{AbortReason}
-use Rattle.regs.specs.Legality.{LegalCall, DisabledCall, NoTxNotEmpty}
+use Rattle.regs.specs.declared.access.Entry.{Entry}
+use Rattle.regs.specs.declared.access.Entry.the-variants.{Write}
+use Rattle.regs.specs.declared.answers.Answer.{Answer}
+use Rattle.regs.specs.declared.answers.Answer.the-variants.{Accepted, Heard, Responded, Refused}
+use Rattle.regs.specs.Legality.{LegalCall, DisabledCall, NoTxNotEmpty, disabled-after}
+use Rattle.regs.specs.Left.{bytes-read}
+use Rattle.regs.proofs.Tests.{by-test}
 use Rattle.regs.proofs.Proper.{ProperReason, ProperAnswer, ProperTried, InPoll, InTurn}
-use Rattle.regs.proofs.Legal.{LegalP, LegalWith, legal, reads-legal, if-program, when-legal, ends-legal, rounds-with}
-use Rattle.regs.proofs.Legal.{wait-on-with, legal-call, disabled-call, proper-call}
+use Rattle.regs.proofs.Legal.{LegalB, LegalP, LegalWith, legal, reads-legal, if-program, when-legal, ends-legal, rounds-with}
+use Rattle.regs.proofs.Legal.{wait-on-with, legal-call, legal-ends, disabled-ends, proper-ends}
+use Rattle.regs.proofs.WatchedLegal.{watched-legal}
 use Rattle.master.specs.Driver.{Driver, Tried, try, setup, tx-fifo-capacity, tx-fifo-full, rx-fifo-len}
 use Rattle.master.specs.Driver.{reason-of, read-and-clear-abort-reason, while-turn, is-err}
 use Rattle.master.specs.Blocking.{read-blocking-bytes, read-blocking-internal, write-blocking-bytes, write-blocking-internal}
@@ -22,7 +31,10 @@ use Rattle.master.specs.Operations.{Operation, writes, reads, Transfer, 
 use Rattle.master.specs.Transfer.{read-internal, write-internal, each-operation, blocking-read}
 use Rattle.master.specs.Transfer.{blocking-write, blocking-write-read, blocking-transaction, read-async}
 use Rattle.master.specs.Transfer.{write-async, write-read-async, transaction-async, transfer}
+use Rattle.master.specs.Operations.{operations-of}
+use Rattle.master.specs.Coded.{tested, is-right, coder, each-coded, longer-transfer, with-code, restarts, coded}
 use Rattle.master.specs.Calls.{Lent, reads-into, writes-from, writes-then-reads, transacts, Call, program-of, program}
+use Rattle.master.specs.Calls.{within-limits, arguments, program-by}
 
 setup-legal : (address : ℕ) → LegalP (setup address)
 unfolding setup
@@ -198,11 +210,58 @@ call-legal mode address (writes-from bytes) = search (legal, transfer-legal)
 call-legal mode address (writes-then-reads bytes buffer) = search (legal, transfer-legal)
 call-legal mode address (transacts kinds lengths bytes buffer) = search (legal, transfer-legal)
 
+-- with a packet error code
+
+coded-operations-legal : (mode : Mode) (restart : Bool) (offset : ℕ) (os : List (Operation ℕ)) → LegalP (each-coded mode restart offset os)
+unfolding each-coded
+coded-operations-legal mode restart offset [] = search legal
+coded-operations-legal mode restart offset (reads len ∷ os) =
+    let ih = coded-operations-legal mode restart (offset + len) os in search (legal, read-legal)
+coded-operations-legal mode restart offset (writes bs ∷ os) =
+    let ih = coded-operations-legal mode restart offset os in search (legal, write-legal)
+
+longer-legal : (mode : Mode) (restart : Bool) (address : ℕ) (os : List (Operation ℕ))
+    → LegalWith ProperAnswer (longer-transfer mode restart address os)
+unfolding longer-transfer
+longer-legal mode restart address os = search (legal, setup-legal, coded-operations-legal)
+
+-- the longer transfer by itself, before its code is known
+pub longer-access-legal : (mode : Mode) (restart : Bool) (address : ℕ) (os : List (Operation ℕ))
+    → LegalCall (longer-transfer mode restart address os)
+longer-access-legal mode restart address os = legal-call _ (longer-legal mode restart address os)
+
+-- the code is written to DATA_CMD, which does not disable the block
+code-kept : (address : ℕ) (os : List (Operation ℕ)) (d : Bool) (log : List Entry) (r x : ℕ)
+    → disabled-after d (Write r (coder address os .value log r x)) ≡ disabled-after d (Write r x)
+code-kept address os d log r x =
+    by-test (eqb r DATA-CMD)
+    (λ q. let e : r ≡ DATA-CMD = eqb-true r DATA-CMD q in rw e refl)
+    (λ q. rw q refl)
+
+tested-proper : (right : Bool) (a : Answer) → ProperAnswer a → ProperAnswer (tested right a)
+tested-proper true Accepted h = tt
+tested-proper false Accepted h = tt
+tested-proper right (Heard c) h = h
+tested-proper right (Responded s) h = h
+tested-proper right (Refused why) h = h
+
+coded-legal : (mode : Mode) (address : ℕ) (t : Transfer ℕ) (n : ℕ) → LegalB false (coded mode address t n ends)
+coded-legal mode address t n =
+    let os : List (Operation ℕ) = operations-of t in
+    watched-legal (coder address os) (code-kept address os)
+    (λ log a h. tested-proper (is-right address os (bytes-read log)) a h)
+    (longer-legal mode (restarts t) address (with-code 0 os) n ends (λ a h. ends-legal h)) []
+
+any-legal : (pec : Bool) (mode : Mode) (address : ℕ) (lent : Lent) (n : ℕ) → LegalB false (program-by pec mode address lent n ends)
+any-legal false mode address lent n = call-legal mode address lent n ends (λ a h. ends-legal h)
+any-legal true mode address lent n =
+    when-legal _ n _ (not (within-limits lent)) (ends-legal tt) (coded-legal mode address (arguments lent) n)
+
 pub every-access-legal : (c : Call) → LegalCall (program c)
-every-access-legal c = legal-call _ (call-legal (c .mode) (c .address) (c .lent))
+every-access-legal c = legal-ends (program c) (any-legal (c .pec) (c .mode) (c .address) (c .lent))
 
 pub only-while-disabled : (c : Call) → DisabledCall (program c)
-only-while-disabled c = disabled-call _ (call-legal (c .mode) (c .address) (c .lent))
+only-while-disabled c = disabled-ends (program c) (any-legal (c .pec) (c .mode) (c .address) (c .lent))
 
 pub never-tx-not-empty : (c : Call) → NoTxNotEmpty (program c)
-never-tx-not-empty c = proper-call _ (call-legal (c .mode) (c .address) (c .lent))
+never-tx-not-empty c = proper-ends (program c) (any-legal (c .pec) (c .mode) (c .address) (c .lent))

@@ -1,4 +1,4 @@
--- Each call stores every byte that it reads, at the next place of the lent buffer: `bytes-received`. It rests on a walk along
+-- Each plain call stores every byte that it reads, at the next place of the lent buffer: `bytes-received`. It rests on a walk along
 -- the driver's text by the law of regs/proofs/Stores.antt, `left-whole`, which also says where a number of no access can come.
 use Prim.Native.Nat.{ℕ, zero, suc, _+_, _-_, _/_, _≤_, _<_}
 use native.Mathlib.Omega.{arith}
@@ -30,12 +30,13 @@ use Rattle.master.specs.Operations.{operations-of, listed, total, known,
 use Rattle.master.specs.Transfer.{read-internal, write-internal, each-operation, blocking-read}
 use Rattle.master.specs.Transfer.{blocking-write, blocking-write-read, blocking-transaction, read-async}
 use Rattle.master.specs.Transfer.{write-async, write-read-async, transaction-async, transfer, within}
-use Rattle.master.specs.Calls.{Lent, reads-into, writes-from, writes-then-reads, transacts, Call, program-of, buffer-in, left-by-call}
+use Rattle.master.specs.Calls.{Lent, reads-into, writes-from, writes-then-reads, transacts, Call, Plain, program-of, buffer-in}
+use Rattle.master.specs.Calls.{left-by-call}
 use Rattle.master.specs.Buffer.{Received, BytesReceived}
 use Rattle.master.proofs.Emits.{Does}
 
 -- with i bytes of L stored, t stores each byte that it reads at the next place
-abbrev Fills : ℕ → ℕ → Does → Type 0
+abbrev pub Fills : ℕ → ℕ → Does → Type 0
 Fills L i t = Stores none (Late any) L i [] tt t
 
 -- parts that read no byte
@@ -97,7 +98,7 @@ space-still : (filled : Filled) → Still (wait-space filled)
 space-still break-xmit = search quiet
 space-still (full bs) = search (parts, come-still) depth 20
 
-write-still : (mode : Mode) (bs : List ℕ) (stop : Bool) → Still (write-internal mode bs stop)
+pub write-still : (mode : Mode) (bs : List ℕ) (stop : Bool) → Still (write-internal mode bs stop)
 unfolding write-blocking-internal write-async-internal
 write-still blocking bs stop = search (quiet, bytes-still) depth 20
 write-still async bs stop = search (parts, fill-still, space-still, stop-det-still) depth 30
@@ -160,7 +161,7 @@ module _ (L offset len : ℕ) (restart stop : Bool) (n : ℕ) (k : Tried (Unit {
 
 -- both modes together
 
-read-filled : (mode : Mode) (offset len : ℕ) (restart stop : Bool) (L n : ℕ) (k : Unit {0} → Does) → offset + len ≤ L
+pub read-filled : (mode : Mode) (offset len : ℕ) (restart stop : Bool) (L n : ℕ) (k : Unit {0} → Does) → offset + len ≤ L
     → Fills L (offset + len) (k tt)
     → Fills L offset (read-internal mode offset len restart stop n k)
 unfolding read-blocking-internal read-async-internal wait-stop-det
@@ -175,7 +176,7 @@ read-filled async offset len restart stop L n k most h =
     search quiet
 
 -- the bytes that operations read, in all
-abbrev reads-in : List (Operation ℕ) → ℕ
+abbrev pub reads-in : List (Operation ℕ) → ℕ
 reads-in [] = 0
 reads-in (reads len ∷ os) = len + reads-in os
 reads-in (writes bs ∷ os) = reads-in os
@@ -192,21 +193,21 @@ operations-filled mode (writes bs ∷ os) offset L n k most h =
 
 -- ---- the calls
 
-abbrev Calls : ℕ → Does → Type 0
+abbrev pub Calls : ℕ → Does → Type 0
 Calls L t = Opens none any L tt t
 
-setup-opens : (address L n : ℕ) (k : Unit {0} → Does) → Fills L 0 (k tt) → Calls L (setup address n k)
+pub setup-opens : (address L n : ℕ) (k : Unit {0} → Does) → Fills L 0 (k tt) → Calls L (setup address n k)
 unfolding setup
 setup-opens address L n k h =
     by-test (ltb address 0x80)
     (λ q. rw q (search (begins, quiet)))
     (λ q. rw q (search (refuses, begins, quiet)))
 
-accepted : (L i : ℕ) → Fills L i (P.ends Accepted)
+pub accepted : (L i : ℕ) → Fills L i (P.ends Accepted)
 accepted L i = ends-late refl tt
 
 -- what a transfer does after `setup`
-abbrev operate : Mode → Transfer ℕ → Driver (Unit {0})
+abbrev pub operate : Mode → Transfer ℕ → Driver (Unit {0})
 operate mode (read len) = read-internal mode 0 len true true
 operate mode (write bs) = write-internal mode bs true
 operate mode (write-read bs len) = write-internal mode bs false >> read-internal mode 0 len true true
@@ -242,7 +243,7 @@ within-opens true mode address x L n most =
 within-opens false mode address x L n most = refuses tt
 
 -- the reads that kinds and lengths list
-reads-listed : (kinds lengths bytes : List ℕ) → known kinds ≡ true → reads-in (listed kinds lengths bytes) ≡ total READ kinds lengths
+pub reads-listed : (kinds lengths bytes : List ℕ) → known kinds ≡ true → reads-in (listed kinds lengths bytes) ≡ total READ kinds lengths
 unfolding listed known total
 reads-listed [] lengths bytes e = refl
 reads-listed (kind ∷ kinds) [] bytes e = refl
@@ -255,7 +256,7 @@ reads-listed (kind ∷ kinds) (m ∷ lengths) bytes e =
     (λ q. let same : eqb kind READ ≡ true = by-test (eqb kind READ) (λ y. y) (λ y. absurd (false-true (rw (y, q) at (here .0)))) in
     rw (q, same) (ap (λ (t : ℕ). m + t) r))
 
-lists-room : (kinds lengths : List ℕ) (written room : ℕ) → lists kinds lengths written room ≡ true
+pub lists-room : (kinds lengths : List ℕ) (written room : ℕ) → lists kinds lengths written room ≡ true
     → (known kinds ≡ true) × (total READ kinds lengths ≡ room)
 lists-room kinds lengths written room e =
     let read : Bool = eqb (total READ kinds lengths) room in
@@ -281,11 +282,11 @@ call-opens mode address (transacts kinds lengths bytes buffer) n =
     let r = reads-listed kinds lengths bytes (l .0) in
     omega (arith, r, l .1))
 
-pub left-whole : (c : Call) (log readings : List ℕ) → Whole none any (buffer-in (c .lent)) tt (left-by-call c log readings)
-left-whole c log readings =
-    whole none any (λ _. tt) (λ _. tt) (call-opens (c .mode) (c .address) (c .lent) _) (length log / 2) readings (buffer-in (c .lent)) refl
+pub left-whole : (c : Call) → Plain c → (log readings : List ℕ) → Whole none any (buffer-in (c .lent)) tt (left-by-call c log readings)
+left-whole c plain log readings =
+    rw plain (whole none any (λ _. tt) (λ _. tt) (call-opens (c .mode) (c .address) (c .lent) _) (length log / 2) readings (buffer-in (c .lent)) refl)
 
-received : (before : List ℕ) (o : Outcome (Unit {0}) Reply) → Whole none any before tt o → Received before o
+pub received : (before : List ℕ) (o : Outcome (Unit {0}) Reply) → Whole none any before tt o → Received before o
 received before o w =
     let s = w .stored in
     let front : bytes-read (o .log) ≡ take (w .count) (o .buffer) = s .bytes ∙ append-nil (take (w .count) (o .buffer)) in
@@ -300,4 +301,4 @@ received before o w =
     }
 
 pub bytes-received : BytesReceived
-bytes-received c log readings = received (buffer-in (c .lent)) (left-by-call c log readings) (left-whole c log readings)
+bytes-received c plain log readings = received (buffer-in (c .lent)) (left-by-call c log readings) (left-whole c plain log readings)

@@ -14,7 +14,7 @@ use Rattle.regs.specs.declared.answers.Refusal.the-variants.{FrequencyTooHigh, 
 use Rattle.regs.specs.declared.answers.Refusal.the-variants.{ClockTooFast, ClockTooSlow, AddressOutOfRange}
 use Rattle.regs.specs.declared.answers.Refusal.the-variants.{InvalidReadBufferLength, InvalidWriteBufferLength, Abort}
 use Rattle.regs.specs.declared.answers.Refusal.the-variants.{TxLevelOutOfRange, InvalidResponseBufferLength, PartialWrite}
-use Rattle.regs.specs.declared.answers.Refusal.the-variants.{PartialGeneralCall, SlaveAddressZero, NoPlaceForPending, OverLimits}
+use Rattle.regs.specs.declared.answers.Refusal.the-variants.{PartialGeneralCall, SlaveAddressZero, NoPlaceForPending, OverLimits, WrongPacketErrorCode}
 use Rattle.regs.specs.declared.answers.Answer.{Answer}
 use Rattle.regs.specs.declared.answers.Answer.the-variants.{Accepted, Heard, Responded, Refused}
 use Rattle.regs.specs.declared.answers.Reply.{Reply}
@@ -101,6 +101,7 @@ numbered (PartialGeneralCall n) e = omega arith
 numbered SlaveAddressZero e = omega arith
 numbered NoPlaceForPending e = omega arith
 numbered OverLimits e = omega arith
+numbered WrongPacketErrorCode e = omega arith
 
 pub emits-sound : (p : Does) (room : ℕ) (rs b : List ℕ) (issued taken : ℕ) (due : List ℕ) → Emits p issued taken due
     → number (after p room rs b .answer) ≡ 0 → AllPossible issued taken (after p room rs b .log) → Wrote (after p room rs b .log) due
@@ -122,3 +123,33 @@ emits-sound (stores j x p) n rs b i t due e good l = emits-sound p n rs (set b j
 emits-sound (asks f) n rs b i t due e good l = emits-sound (f tt) n rs b i t due e good l
 emits-sound (keeps s p) n rs b i t due e good l = emits-sound p n rs b i t due e good l
 emits-sound cut n rs b i t due e good l = absurd (omega arith)
+
+-- what is due after a word
+due-left : {Q : Type 0} (here : Bool) (w : ℕ) (due : List ℕ) (P : List ℕ → Type 0) → Due here w due P → ((rest : List ℕ) → P rest → Q) → Q
+due-left false w due P d f = f due d
+due-left true w [] P d f = absurd d
+due-left true w (x ∷ due) P d f = f due (d .1)
+
+-- and the answer with number 0 is Accepted
+pub emits-accepted : (p : Does) (room : ℕ) (rs b : List ℕ) (issued taken : ℕ) (due : List ℕ) → Emits p issued taken due
+    → number (after p room rs b .answer) ≡ 0 → AllPossible issued taken (after p room rs b .log)
+    → after p room rs b .answer ≡ Answered Accepted
+unfolding outcome
+emits-accepted (ends Accepted) room rs b i t due e good l = refl
+emits-accepted (ends (Heard command)) room rs b i t due e good l = absurd e
+emits-accepted (ends (Responded status)) room rs b i t due e good l = absurd e
+emits-accepted (ends (Refused refusal)) room rs b i t due e good l = absurd (numbered refusal good)
+emits-accepted (reads r f) zero rs b i t due e good l = absurd (omega arith)
+emits-accepted (reads r f) (suc n) [] b i t due e good l = absurd (omega arith)
+emits-accepted (reads r f) (suc n) (v ∷ rs) b i t due e good l =
+    emits-accepted (f v) n rs b i (taken-by r t) due (e v (l .0)) good (l .1)
+emits-accepted (writes r w p) zero rs b i t due e good l = absurd (omega arith)
+emits-accepted (writes r w p) (suc n) rs b i t due e good l =
+    due-left (eqb r DATA-CMD) w due (λ rest. Emits p (issued-by r w i) t rest) (e .1)
+    (λ rest h. emits-accepted p n rs b (issued-by r w i) t rest h good l)
+emits-accepted (marks x p) zero rs b i t due e good l = absurd (omega arith)
+emits-accepted (marks x p) (suc n) rs b i t due e good l = emits-accepted p n rs b i t due e good l
+emits-accepted (stores j x p) n rs b i t due e good l = emits-accepted p n rs (set b j x) i t due e good l
+emits-accepted (asks f) n rs b i t due e good l = emits-accepted (f tt) n rs b i t due e good l
+emits-accepted (keeps s p) n rs b i t due e good l = emits-accepted p n rs b i t due e good l
+emits-accepted cut n rs b i t due e good l = absurd (omega arith)

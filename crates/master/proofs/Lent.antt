@@ -1,38 +1,38 @@
--- What is lent to a call as the arguments of a transfer and number 20's test of them, by cases of what is lent.
+-- A call as a transfer on what is lent within number 20's test, and the bytes of its operations, by cases of what is lent.
 use Prim.Native.Nat.{ℕ, zero, suc}
 use mathlib.Core.Path.{_≡_, refl}
 use mathlib.Core.Bool.{Bool, true, false}
 use mathlib.Core.List.{List, [], _∷_}
 use lib.Dec.{eqb}
-use lib.ListN.{length, take, drop}
+use lib.ListN.{take, drop}
+use Rattle.regs.specs.declared.answers.Answer.{Answer}
 use Rattle.regs.specs.Program.{if_then_else_}
 use Rattle.regs.specs.Log.{Each}
-use Rattle.master.specs.Operations.{writes, reads, Transfer, read, write, write-read, transaction}
-use Rattle.master.specs.Operations.{Mode, WRITE, operations-of, listed}
+use Rattle.master.specs.Driver.{Driver}
+use Rattle.master.specs.Operations.{writes, reads, Transfer}
+use Rattle.master.specs.Operations.{Mode, WRITE, listed}
 use Rattle.master.specs.Transfer.{transfer, within}
-use Rattle.master.specs.Calls.{Lent, reads-into, writes-from, writes-then-reads, transacts, program-of}
-use Rattle.master.specs.Calls.{within-limits, bytes-in, operations-in}
+use Rattle.master.specs.Coded.{coded}
+use Rattle.master.specs.Calls.{Lent, reads-into, writes-from, writes-then-reads, transacts}
+use Rattle.master.specs.Calls.{SameArguments, program-by, within-limits, arguments, bytes-in, operations-in}
 use Rattle.master.proofs.Sequence.{Bytes, OfBytes}
 
-abbrev pub arguments : Lent → Transfer ℕ
-arguments (reads-into buffer) = read (length buffer)
-arguments (writes-from bytes) = write bytes
-arguments (writes-then-reads bytes buffer) = write-read bytes (length buffer)
-arguments (transacts kinds lengths bytes buffer) = transaction (listed kinds lengths bytes)
+-- each call is a transfer within limits, plain or with a packet error code
 
--- each call is a transfer within limits
-pub program-is : (mode : Mode) (address : ℕ) (lent : Lent)
-    → program-of mode address lent ≡ within (within-limits lent) (transfer mode address (arguments lent))
-program-is mode address (reads-into buffer) = refl
-program-is mode address (writes-from bytes) = refl
-program-is mode address (writes-then-reads bytes buffer) = refl
-program-is mode address (transacts kinds lengths bytes buffer) = refl
+pub same-arguments : SameArguments
+same-arguments mode address (reads-into buffer) = refl
+same-arguments mode address (writes-from bytes) = refl
+same-arguments mode address (writes-then-reads bytes buffer) = refl
+same-arguments mode address (transacts kinds lengths bytes buffer) = refl
 
-pub operations-are : (lent : Lent) → operations-in lent ≡ operations-of (arguments lent)
-operations-are (reads-into buffer) = refl
-operations-are (writes-from bytes) = refl
-operations-are (writes-then-reads bytes buffer) = refl
-operations-are (transacts kinds lengths bytes buffer) = refl
+abbrev pub transfer-by : Bool → Mode → ℕ → Transfer ℕ → Driver Answer
+transfer-by false mode address t = transfer mode address t
+transfer-by true mode address t = coded mode address t
+
+pub program-within : (pec : Bool) (mode : Mode) (address : ℕ) (lent : Lent)
+    → program-by pec mode address lent ≡ within (within-limits lent) (transfer-by pec mode address (arguments lent))
+program-within false mode address lent = same-arguments mode address lent
+program-within true mode address lent = refl
 
 -- the bytes that operations write are of those that are lent
 

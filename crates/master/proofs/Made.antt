@@ -1,5 +1,6 @@
--- A call as demand 3 has it (`Made`), from what the call's contract says and from the type of the lent bytes.
+-- A plain call as demand 3 has it (`Made`), from what the call's contract says and from the type of the lent bytes.
 use Prim.Native.Nat.{ℕ, _<_}
+use mathlib.Core.Bool.{false}
 use mathlib.Core.List.{List, []}
 use lib.ListN.{length}
 use Rattle.regs.specs.Log.{Each, expected, Leaves, LeavesBuffer}
@@ -11,7 +12,7 @@ use Rattle.master.specs.Demand3.{Made}
 
 module _ (mode : Mode) (address : ℕ) (readings before after : List ℕ) (r : Ran) where
   abbrev call-of : Lent → Call
-  call-of lent = record { mode = mode; address = address; lent = lent }
+  call-of lent = record { mode = mode; address = address; lent = lent; pec = false }
 
   abbrev made : (lent : Lent)
       → Each (λ b. b < 256) (bytes-in lent)

@@ -3,7 +3,7 @@ use Prim.Native.Nat.{ℕ, _+_, _*_, _≤_, _<_}
 use native.Mathlib.Omega.{arith}
 use mathlib.Core.Path.{_≡_, refl}
 use mathlib.Core.Logic.{_≢_}
-use mathlib.Core.Bool.{_&&_}
+use mathlib.Core.Bool.{Bool, false, _&&_}
 use mathlib.Core.List.{List, [], _∷_, _++_}
 use lib.Dec.{eqb}
 use lib.ListN.{length, drop, replicate}
@@ -25,18 +25,19 @@ use Rattle.master.specs.Transfer.{blocking-transaction, read-async, writ
 use Rattle.master.specs.Transfer.{transaction-async}
 use Rattle.master.specs.Sequence.{joined}
 use Rattle.master.specs.Calls.{Lent, reads-into, writes-from, writes-then-reads, transacts, Call, bytes-in, left-by-call}
-use Rattle.master.specs.Demand3.{Made, operations, log-of, NotEmpty, taken-by, taken-in, issued-by, issued-in}
+use Rattle.master.specs.Demand3.{Made, asked, operations, log-of, NotEmpty, taken-by, taken-in, issued-by, issued-in}
 use Rattle.master.specs.Demand3.{LevelsPossible, Premises, SameIf}
 use Rattle.master.proofs.Emits.{AllPossible}
-use Rattle.master.proofs.Demand3.{shifted, not-nil, log-is}
+use Rattle.master.proofs.Longer.{not-nil}
+use Rattle.master.proofs.Demand3.{shifted, log-is}
 
 -- the lent log, with words of an earlier call in it
-abbrev old : List ℕ
+abbrev pub old : List ℕ
 old = replicate 80 0x210
 
-abbrev made : (mode : Mode) (address : ℕ) (lent : Lent) → Each (λ b. b < 256) (bytes-in lent) → List ℕ → Made
-made mode address lent small readings =
-    let c : Call = record { mode = mode; address = address; lent = lent } in
+abbrev pub made-with : Bool → (mode : Mode) (address : ℕ) (lent : Lent) → Each (λ b. b < 256) (bytes-in lent) → List ℕ → Made
+made-with pec mode address lent small readings =
+    let c : Call = record { mode = mode; address = address; lent = lent; pec = pec } in
     let o : Outcome (Unit {0}) Reply = left-by-call c old readings in
     record {
       call = c;
@@ -47,6 +48,9 @@ made mode address lent small readings =
       left = record { reply = refl; entries = refl; used = refl; log = refl };
       small = small;
     }
+
+abbrev made : (mode : Mode) (address : ℕ) (lent : Lent) → Each (λ b. b < 256) (bytes-in lent) → List ℕ → Made
+made = made-with false
 
 -- the levels of a log, place by place and as the premise has them
 levels-at : (before after : List Entry) (v i t : ℕ)
@@ -62,7 +66,7 @@ levels-at (Marked x ∷ before) after v i t l = levels-at before after v i t l
 levels-of : (log : List Entry) → AllPossible 0 0 log → LevelsPossible log
 levels-of log l before after v e = let f = levels-at before after v 0 0 (rw e at l) in omega arith
 
-levels-left : (m : Made) → AllPossible 0 0 (left-by-call (m .call) (m .before) (m .readings) .log) → LevelsPossible (log-of m)
+pub levels-left : (m : Made) → AllPossible 0 0 (left-by-call (m .call) (m .before) (m .readings) .log) → LevelsPossible (log-of m)
 levels-left m l = rw (log-is m) (levels-of (left-by-call (m .call) (m .before) (m .readings) .log) l)
 
 -- calls
@@ -105,10 +109,10 @@ pub record Needed : Type 0 where
   pub met-async : Premises three-rounds
   pub met-blocking : Premises written-and-read
   -- the claim without one of them is false
-  pub succeeds : SameIf (λ m. (operations m ≢ []) × (Each NotEmpty (operations m) × LevelsPossible (log-of m))) → ⊥
-  pub at-least-one : SameIf (λ m. (number (m .ran .reply) ≡ 0) × (Each NotEmpty (operations m) × LevelsPossible (log-of m))) → ⊥
-  pub none-empty : SameIf (λ m. (number (m .ran .reply) ≡ 0) × ((operations m ≢ []) × LevelsPossible (log-of m))) → ⊥
-  pub levels : SameIf (λ m. (number (m .ran .reply) ≡ 0) × ((operations m ≢ []) × Each NotEmpty (operations m))) → ⊥
+  pub succeeds : SameIf (λ m. (asked m ≢ []) × (Each NotEmpty (asked m) × LevelsPossible (log-of m))) → ⊥
+  pub at-least-one : SameIf (λ m. (number (m .ran .reply) ≡ 0) × (Each NotEmpty (asked m) × LevelsPossible (log-of m))) → ⊥
+  pub none-empty : SameIf (λ m. (number (m .ran .reply) ≡ 0) × ((asked m ≢ []) × LevelsPossible (log-of m))) → ⊥
+  pub levels : SameIf (λ m. (number (m .ran .reply) ≡ 0) × ((asked m ≢ []) × Each NotEmpty (asked m))) → ⊥
 
 pub needed : Needed
 unfolding outcome turns rounds setup tx-fifo-capacity tx-fifo-full rx-fifo-len read-and-clear-abort-reason

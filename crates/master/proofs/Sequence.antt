@@ -20,6 +20,7 @@ use Rattle.bus.specs.Bus.{Sign, RESTART, STOP, written, read-slot, same, direct
 use Rattle.master.specs.Operations.{Operation, writes, reads}
 use Rattle.master.specs.Sequence.{joined-to, joined, direction, payload, sequence-from, sequence}
 use Rattle.master.specs.Demand3.{NotEmpty}
+use Rattle.master.specs.CodedLaws.{Small}
 use Rattle.master.proofs.Words.{read-words, write-words, words-of, all-words}
 
 -- what written numbers are: bytes
@@ -27,15 +28,14 @@ abbrev pub Bytes : List ℕ → Type 0
 Bytes bs = Each (λ b. b < 256) bs
 
 abbrev pub OfBytes : Operation ℕ → Type 0
-OfBytes (writes bs) = Bytes bs
-OfBytes (reads n) = Unit {0}
+OfBytes = Small
 
 -- what comes before a byte, by its direction and its RESTART flag
-abbrev opens : Bus → Direction → Bool → Opening
+abbrev pub opens : Bus → Direction → Bool → Opening
 opens Idle d flag = Start
 opens (Busy e) d flag = if same e d && not flag then None else Restart
 
-abbrev front : Bus → ℕ → Direction → Bool → List Sign
+abbrev pub front : Bus → ℕ → Direction → Bool → List Sign
 front bus a d flag = opening (opens bus d flag) a d
 
 -- the bus after a byte, by its direction and its STOP flag
@@ -126,7 +126,7 @@ flow : Bus → ℕ → List (Operation ℕ) → List Sign
 flow bus a [] = STOP ∷ []
 flow bus a (o ∷ os) = front bus a (direction o) false ++ (payload o ++ sequence-from RESTART a os)
 
-map-append : (f : ℕ → Sign) (xs ys : List ℕ) → map f (xs ++ ys) ≡ map f xs ++ map f ys
+pub map-append : (f : ℕ → Sign) (xs ys : List ℕ) → map f (xs ++ ys) ≡ map f xs ++ map f ys
 map-append f [] ys = refl
 map-append f (x ∷ xs) ys = ap (λ r. f x ∷ r) (map-append f xs ys)
 
@@ -159,6 +159,11 @@ pub harmless-unset : (bus : Bus) (os : List (Operation ℕ)) → AllHarmless fal
 harmless-unset bus [] = tt
 harmless-unset bus (o ∷ os) = (λ a. refl, harmless-unset (Busy (direction o)) os)
 
+idle-flow : (a : ℕ) (qs : List (Operation ℕ)) → flow Idle a qs ≡ sequence a qs
+unfolding flow sequence-from
+idle-flow a [] = refl
+idle-flow a (q ∷ qs) = refl
+
 -- from an idle bus the words of operations make the sequence of the joined operations
 pub words-make-sequence : (a : ℕ) (restart : Bool) (os : List (Operation ℕ))
     → os ≢ []
@@ -166,11 +171,25 @@ pub words-make-sequence : (a : ℕ) (restart : Bool) (os : List (Operation ℕ))
     → Each OfBytes os
     → AllHarmless restart Idle os
     → signs Idle a (all-words restart os) ≡ sequence a (joined os)
-unfolding flow sequence-from joined
 words-make-sequence a restart [] some full bytes harmless = absurd (some refl)
 words-make-sequence a restart (o ∷ os) some full bytes harmless =
-    signs-of-all Idle a restart o os full bytes harmless ∙ idle-flow (joined (o ∷ os))
-  where
-    idle-flow : (qs : List (Operation ℕ)) → flow Idle a qs ≡ sequence a qs
-    idle-flow [] = refl
-    idle-flow (q ∷ qs) = refl
+    signs-of-all Idle a restart o os full bytes harmless ∙ idle-flow a (joined (o ∷ os))
+
+-- the sequence of the joined operations, operation by operation and without its STOP
+unfoldable pub body : Bus → ℕ → List (Operation ℕ) → List Sign
+body bus a [] = []
+body bus a (o ∷ os) = front bus a (direction o) false ++ (payload o ++ body (Busy (direction o)) a os)
+
+pub append-three : (xs ys zs ws : List Sign) → (xs ++ (ys ++ zs)) ++ ws ≡ xs ++ (ys ++ (zs ++ ws))
+append-three xs ys zs ws = append-assoc xs (ys ++ zs) ws ∙ ap (λ (r : List Sign). xs ++ r) (append-assoc ys zs ws)
+
+flow-body : (bus : Bus) (a : ℕ) (os : List (Operation ℕ)) → flow bus a (joined os) ≡ body bus a os ++ STOP ∷ []
+unfolding flow joined body
+flow-body bus a [] = refl
+flow-body bus a (o ∷ os) =
+    flow-joined bus a o (joined os)
+    ∙ (ap (λ (ss : List Sign). front bus a (direction o) false ++ (payload o ++ ss)) (flow-body (Busy (direction o)) a os)
+    ∙ sym (append-three (front bus a (direction o) false) (payload o) (body (Busy (direction o)) a os) (STOP ∷ [])))
+
+pub sequence-body : (a : ℕ) (os : List (Operation ℕ)) → sequence a (joined os) ≡ body Idle a os ++ STOP ∷ []
+sequence-body a os = sym (idle-flow a (joined os)) ∙ flow-body Idle a os

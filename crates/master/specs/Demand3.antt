@@ -1,13 +1,14 @@
--- Demand 3: two master calls that succeed make the same bus sequence exactly if their addresses and their joined
--- operations are the same.
+-- Demand 3: two master calls that succeed, plain ones or with a packet error code, make the same bus sequence exactly if
+-- their addresses and their joined operations are the same. The code counts as a byte of the last operation.
 -- The bus sequence (crates/bus/specs/Bus.antt) begins on an idle bus with restarts enabled.
 use Prim.Native.Nat.{ℕ, zero, suc, _+_, _*_, _≤_, _<_}
 use mathlib.Core.Path.{_≡_}
 use mathlib.Core.Logic.{_≢_, _↔_}
-use mathlib.Core.Bool.{_&&_}
+use mathlib.Core.Bool.{true, _&&_}
 use mathlib.Core.List.{List, [], _∷_, _++_}
 use lib.Dec.{eqb}
 use lib.ListN.{take}
+use Rattle.crc8.specs.Crc8.{crc8}
 use Rattle.regs.specs.declared.access.Entry.{Entry}
 use Rattle.regs.specs.declared.access.Entry.the-variants.{Read, Write, Marked}
 use Rattle.regs.specs.declared.access.Ran.{Ran}
@@ -15,13 +16,15 @@ use Rattle.regs.specs.Answers.{number}
 use Rattle.regs.specs.Registers.{DATA-CMD, RXFLR}
 use Rattle.regs.specs.Fields.{cmd, level}
 use Rattle.regs.specs.Program.{if_then_else_}
+use Rattle.regs.specs.Left.{bytes-read}
 use Rattle.regs.specs.Log.{Each, Leaves, decode}
 use Rattle.bus.specs.Bus.{Sign, bus-sequence}
 use Rattle.master.specs.Operations.{Operation, writes, reads}
 use Rattle.master.specs.Sequence.{joined, sequence, told}
+use Rattle.master.specs.Coded.{message, code-of, with-code}
 use Rattle.master.specs.Calls.{Call, bytes-in, operations-in, left-by-call}
 
--- One of the eight calls as it was made: what was lent to it, the readings, the lent log before and after it, and
+-- A call as it was made: what was lent to it, the readings, the lent log before and after it, and
 -- what it returned. `left` is what the call's contract says of them, `small` what the type `&[u8]` does.
 pub record Made : Type 0 where
   pub call : Call
@@ -35,12 +38,19 @@ pub record Made : Type 0 where
 abbrev pub address : Made → ℕ
 address m = m .call .address
 
-abbrev pub operations : Made → List (Operation ℕ)
-operations m = operations-in (m .call .lent)
+-- the operations that were asked for, on data alone
+abbrev pub asked : Made → List (Operation ℕ)
+asked m = operations-in (m .call .lent)
 
 -- the log that it left: as many entries as it returned, two words each; what stands after them is older
 abbrev pub log-of : Made → List Entry
 log-of m = decode (take (m .ran .entries * 2) (m .after))
+
+-- The operations that it makes. With a packet error code the last one has the code behind it: as a written byte with its
+-- value, over the bytes that the log read before, or as one more byte to read.
+abbrev pub operations : Made → List (Operation ℕ)
+operations m =
+    if m .call .pec then with-code (code-of (address m) (asked m) (bytes-read (log-of m))) (asked m) else asked m
 
 -- the bus sequence of that log, which `bus::bus_sequence` makes of the same words
 abbrev pub made-sequence : Made → List Sign
@@ -80,8 +90,8 @@ LevelsPossible log = (before after : List Entry) (v : ℕ)
 -- the premises, of a call as it was made
 pub record Premises (m : Made) : Type 0 where
   pub succeeds : number (m .ran .reply) ≡ 0
-  pub at-least-one : operations m ≢ []
-  pub none-empty : Each NotEmpty (operations m)
+  pub at-least-one : asked m ≢ []
+  pub none-empty : Each NotEmpty (asked m)
   pub levels : LevelsPossible (log-of m)
 
 -- under such premises two calls make the same sequence exactly if their addresses and their joined operations are the same
@@ -103,3 +113,8 @@ abbrev pub ToldByCall : Type 0
 ToldByCall = (m : Made) → Premises m
     → (told (made-sequence m) .address ≡ address m)
     × (told (made-sequence m) .operations ≡ joined (operations m))
+
+-- With a packet error code, the bytes on the bus are a message with its code behind it: what the log wrote and read has
+-- the code 0. Of a last read the code is the byte that came.
+abbrev pub CodeOnTheBus : Type 0
+CodeOnTheBus = (m : Made) → m .call .pec ≡ true → Premises m → crc8 (message (made-sequence m) (bytes-read (log-of m))) ≡ 0

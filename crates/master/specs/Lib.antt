@@ -4,7 +4,10 @@ pub mod Blocking
 pub mod Async
 pub mod Operations
 pub mod Transfer
-pub mod Calls
 pub mod Sequence
+pub mod Coded
+pub mod Calls
 pub mod Demand3
+pub mod CodedLaws
 pub mod Buffer
+pub mod inner

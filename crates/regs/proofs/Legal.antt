@@ -4,6 +4,7 @@
 --     LegalP p       so it is of the program p, whatever such behaviour follows it, where nothing is known of the block
 --     LegalWith R p  the same, where what p hands on meets R
 --     legal-call, disabled-call, proper-call    so the laws of specs/Legality.antt hold of p
+--     legal-ends, disabled-ends, proper-ends    the same, from p as a whole call
 -- A function f of a driver has a lemma, LegalP or LegalWith of its calls, whose proof is
 -- `search` with the rules `legal` and the lemmas of the functions that f calls.
 use Prim.Native.Nat.{ℕ, zero, suc, _/_}
@@ -188,13 +189,23 @@ module _ {S : Type 0} where
   proper-left cut-legal room rs b s = tt
 
 -- of a whole program, as the contract of a call has it
+module _ {S : Type 0} (p : Program S Answer Answer) (l : (n : ℕ) → LegalB false (p n ends)) where
+  pub legal-ends : LegalCall p
+  legal-ends log readings buffer s = legal-log (l _) (length log / 2) readings buffer s .0
+
+  pub disabled-ends : DisabledCall p
+  disabled-ends log readings buffer s = legal-log (l _) (length log / 2) readings buffer s .1
+
+  pub proper-ends : NoTxNotEmpty p
+  proper-ends log readings buffer s n e =
+      subst ProperReply e (proper-left (l _) (length log / 2) readings buffer s)
+
 module _ {S : Type 0} (p : Program S Answer Answer) (l : LegalWith ProperAnswer p) where
   pub legal-call : LegalCall p
-  legal-call log readings buffer s = legal-log (l _ ends (λ a h. ends-legal h)) (length log / 2) readings buffer s .0
+  legal-call = legal-ends p (λ n. l n ends (λ a h. ends-legal h))
 
   pub disabled-call : DisabledCall p
-  disabled-call log readings buffer s = legal-log (l _ ends (λ a h. ends-legal h)) (length log / 2) readings buffer s .1
+  disabled-call = disabled-ends p (λ n. l n ends (λ a h. ends-legal h))
 
   pub proper-call : NoTxNotEmpty p
-  proper-call log readings buffer s n e =
-      subst ProperReply e (proper-left (l _ ends (λ a h. ends-legal h)) (length log / 2) readings buffer s)
+  proper-call = proper-ends p (λ n. l n ends (λ a h. ends-legal h))

@@ -10,8 +10,11 @@ pub mod Enough
 pub mod Spent
 pub mod Bounded
 pub mod Stepped
+pub mod Watched
+pub mod Summed
 pub mod Proper
 pub mod Legal
+pub mod WatchedLegal
 pub mod Stores
 pub mod Quiet
 pub mod RoundTrip

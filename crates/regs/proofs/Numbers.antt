@@ -8,15 +8,16 @@ use Rattle.regs.specs.declared.answers.Refusal.the-variants.{FrequencyTo
 use Rattle.regs.specs.declared.answers.Refusal.the-variants.{ClockTooSlow, AddressOutOfRange, InvalidReadBufferLength}
 use Rattle.regs.specs.declared.answers.Refusal.the-variants.{InvalidWriteBufferLength, Abort, TxLevelOutOfRange}
 use Rattle.regs.specs.declared.answers.Refusal.the-variants.{InvalidResponseBufferLength, PartialWrite, PartialGeneralCall}
-use Rattle.regs.specs.declared.answers.Refusal.the-variants.{SlaveAddressZero, NoPlaceForPending, OverLimits}
+use Rattle.regs.specs.declared.answers.Refusal.the-variants.{SlaveAddressZero, NoPlaceForPending, OverLimits, WrongPacketErrorCode}
 use Rattle.regs.specs.declared.answers.Reply.the-variants.{OutOfReadings, LogFull}
 
 pub by-row : (address word level n : ℕ)
     → map refusal-number (FrequencyTooHigh ∷ FrequencyZero ∷ ClockOutOfRange ∷ ClockTooFast ∷ ClockTooSlow
     ∷ AddressOutOfRange address ∷ InvalidReadBufferLength ∷ InvalidWriteBufferLength ∷ Abort NoAcknowledge
     ∷ Abort ArbitrationLoss ∷ Abort (Other word) ∷ TxLevelOutOfRange level ∷ InvalidResponseBufferLength
-    ∷ PartialWrite n ∷ PartialGeneralCall n ∷ SlaveAddressZero ∷ NoPlaceForPending ∷ OverLimits ∷ [])
-    ≡ 1 ∷ 2 ∷ 3 ∷ 4 ∷ 5 ∷ 6 ∷ 7 ∷ 8 ∷ 9 ∷ 10 ∷ 11 ∷ 12 ∷ 13 ∷ 14 ∷ 15 ∷ 16 ∷ 17 ∷ 20 ∷ []
+    ∷ PartialWrite n ∷ PartialGeneralCall n ∷ SlaveAddressZero ∷ NoPlaceForPending ∷ OverLimits
+    ∷ WrongPacketErrorCode ∷ [])
+    ≡ 1 ∷ 2 ∷ 3 ∷ 4 ∷ 5 ∷ 6 ∷ 7 ∷ 8 ∷ 9 ∷ 10 ∷ 11 ∷ 12 ∷ 13 ∷ 14 ∷ 15 ∷ 16 ∷ 17 ∷ 20 ∷ 22 ∷ []
 by-row address word level n = refl
 
 pub of-a-run : (number OutOfReadings ≡ 18) × (number LogFull ≡ 19)

@@ -7,7 +7,7 @@ use Rattle.regs.specs.declared.answers.Refusal.the-variants.{FrequencyTo
 use Rattle.regs.specs.declared.answers.Refusal.the-variants.{ClockTooSlow, AddressOutOfRange, InvalidReadBufferLength}
 use Rattle.regs.specs.declared.answers.Refusal.the-variants.{InvalidWriteBufferLength, Abort, TxLevelOutOfRange}
 use Rattle.regs.specs.declared.answers.Refusal.the-variants.{InvalidResponseBufferLength, PartialWrite, PartialGeneralCall}
-use Rattle.regs.specs.declared.answers.Refusal.the-variants.{SlaveAddressZero, NoPlaceForPending, OverLimits}
+use Rattle.regs.specs.declared.answers.Refusal.the-variants.{SlaveAddressZero, NoPlaceForPending, OverLimits, WrongPacketErrorCode}
 use Rattle.regs.specs.declared.answers.Answer.{Answer}
 use Rattle.regs.specs.declared.answers.Answer.the-variants.{Accepted, Heard, Responded, Refused}
 use Rattle.regs.specs.declared.answers.Reply.{Reply}
@@ -36,6 +36,7 @@ ProperRefusal (PartialGeneralCall n) = Unit {0}
 ProperRefusal SlaveAddressZero = Unit {0}
 ProperRefusal NoPlaceForPending = Unit {0}
 ProperRefusal OverLimits = Unit {0}
+ProperRefusal WrongPacketErrorCode = Unit {0}
 
 abbrev pub ProperAnswer : Answer → Type 0
 ProperAnswer Accepted = Unit {0}

@@ -13,7 +13,7 @@ use Rattle.regs.specs.declared.answers.Refusal.the-variants.{AddressOutO
 use Rattle.regs.specs.declared.answers.Refusal.the-variants.{InvalidWriteBufferLength, Abort}
 use Rattle.regs.specs.declared.answers.Refusal.the-variants.{TxLevelOutOfRange, InvalidResponseBufferLength}
 use Rattle.regs.specs.declared.answers.Refusal.the-variants.{PartialWrite, PartialGeneralCall}
-use Rattle.regs.specs.declared.answers.Refusal.the-variants.{SlaveAddressZero, NoPlaceForPending, OverLimits}
+use Rattle.regs.specs.declared.answers.Refusal.the-variants.{SlaveAddressZero, NoPlaceForPending, OverLimits, WrongPacketErrorCode}
 use Rattle.regs.specs.declared.answers.Answer.{Answer}
 use Rattle.regs.specs.declared.answers.Answer.the-variants.{Accepted, Heard, Responded, Refused}
 use Rattle.regs.specs.declared.answers.Reply.{Reply}
@@ -43,6 +43,7 @@ refusal-number (PartialGeneralCall n) = 15
 refusal-number SlaveAddressZero = 16
 refusal-number NoPlaceForPending = 17
 refusal-number OverLimits = 20
+refusal-number WrongPacketErrorCode = 22
 
 abbrev pub answer-number : Answer → ℕ
 answer-number Accepted = 0
@@ -93,6 +94,7 @@ refusal-detail (PartialGeneralCall n) = n
 refusal-detail SlaveAddressZero = 0
 refusal-detail NoPlaceForPending = 0
 refusal-detail OverLimits = 0
+refusal-detail WrongPacketErrorCode = 0
 
 abbrev pub answer-detail : Answer → ℕ
 answer-detail Accepted = 0

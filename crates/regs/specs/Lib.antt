@@ -7,5 +7,6 @@ pub mod Log
 pub mod Bounds
 pub mod Steps
 pub mod Left
+pub mod Watched
 pub mod Legality
 pub mod inner

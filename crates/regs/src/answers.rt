@@ -41,6 +41,7 @@ pub enum Refusal {
     SlaveAddressZero,
     NoPlaceForPending,
     OverLimits,
+    WrongPacketErrorCode,
 }
 
 // What a driver answers.

@@ -40,6 +40,7 @@ fn number_of_refusal(r: Refusal) -> u8
         Refusal::SlaveAddressZero => 16,
         Refusal::NoPlaceForPending => 17,
         Refusal::OverLimits => 20,
+        Refusal::WrongPacketErrorCode => 22,
     }
 }
 
@@ -117,6 +118,7 @@ fn detail_of_refusal(r: Refusal) -> u32
         Refusal::SlaveAddressZero => 0,
         Refusal::NoPlaceForPending => 0,
         Refusal::OverLimits => 0,
+        Refusal::WrongPacketErrorCode => 0,
     }
 }
 

@@ -1,5 +1,5 @@
--- The head of a loop over bytes: C is what the burst has come to, at byte
--- i with n bytes to go that have their places, entries and readings.
+-- The head of a loop over bytes: C is what the burst has come to, at byte i with n bytes to go that
+-- have their places, entries and readings. The last byte is not among them and may have no place.
 use Prim.Native.Nat.{ℕ, _+_, _*_, _/_, _-_, _<_, _≤_, _^_}
 use native.Mathlib.Omega.{arith}
 use mathlib.Core.List.{List}
@@ -11,7 +11,7 @@ pub record Turns (C : ℕ → ℕ → ℕ → List ℕ → List ℕ → Type 0) 
     (n i u k : ℕ) : Type 0 where
   pub came : C i u k l b
   pub short : n + i + 1 ≤ len
-  pub held : at + len ≤ length b₀
+  pub held : at + len ≤ length b₀ + 1
   pub room : n * each + k ≤ length l₀ / 2
   pub left : n * taken + u ≤ length readings
   pub long : length l ≡ length l₀
@@ -23,7 +23,7 @@ module _ {C : ℕ → ℕ → ℕ → List ℕ → List ℕ → Type 0} {each ta
   pub no-turn : {n i u k : ℕ}
       → C i u k l₀ b₀
       → n + i + 1 ≤ len
-      → at + len ≤ length b₀
+      → at + len ≤ length b₀ + 1
       → n * each + k ≤ length l₀ / 2
       → n * taken + u ≤ length readings
       → length b₀ < 2 ^ 64

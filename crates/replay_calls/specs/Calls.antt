@@ -11,8 +11,11 @@ use Rattle.regs.specs.declared.answers.Reply.{Reply}
 use Rattle.regs.specs.declared.answers.Reply.the-variants.{Answered, LogFull, OutOfReadings}
 use Rattle.clock_setting.specs.SetConfig.{set-config}
 use Rattle.master.specs.Driver.{Driver}
-use Rattle.master.specs.Operations.{Operation, writes, reads, Mode, blocking, async, READ, WRITE}
-use Rattle.master.specs.Transfer.{read-call, write-call, write-read-call, transaction-call}
+use Rattle.master.specs.Operations.{Operation, writes, reads, Mode, blocking, async, READ, WRITE, fits, lists}
+use Rattle.master.specs.Operations.{Transfer, read, write, write-read, transaction}
+use Rattle.master.specs.Operations as Master
+use Rattle.master.specs.Transfer.{transfer, within}
+use Rattle.master.specs.Coded.{coded}
 use Rattle.slave.specs.I2cSlave.{reset-call, listen-call, respond-to-read-call, respond-till-stop-call, respond-and-fill-call}
 use Rattle.slave.specs.declared.SlaveState.{SlaveState}
 use Rattle.text_hex.specs.Print.{log-text, buffer-text, reply-text}
@@ -48,17 +51,24 @@ listing (writes bs ∷ os) =
     listed (WRITE ∷ rest .kinds) (length bs ∷ rest .lengths) (bs ++ rest .bytes) (rest .room)
 listing (reads n ∷ os) = let rest = listing os in listed (READ ∷ rest .kinds) (n ∷ rest .lengths) (rest .bytes) (n + rest .room)
 
--- forms 0 to 3 block, and 4 to 7 are the async ones
+-- bit 2 of a form: async
 abbrev pub mode-of : ℕ → Mode
-mode-of form = if ltb form 4 then blocking else async
+mode-of form = if ltb (form % 8) 4 then blocking else async
 
--- read, write, write-read, transaction
+-- a form from 8 on has a packet error code. Number 20 is before all, by the data alone
+abbrev pub within-form : ℕ → ℕ → Bool → Transfer ℕ → Driver Answer
+within-form form address limits t =
+    within limits (if ltb form 8 then transfer (mode-of form) address t else coded (mode-of form) address t)
+
+-- bits 0 and 1 of a form: read, write, write-read, transaction
 abbrev pub transfer-of : ℕ → ℕ → Listed → Driver Answer
 transfer-of form address l =
-    if eqb (form % 4) 0 then read-call (mode-of form) address (l .room)
-    else (if eqb (form % 4) 1 then write-call (mode-of form) address (l .bytes)
-    else (if eqb (form % 4) 2 then write-read-call (mode-of form) address (l .bytes) (l .room)
-    else transaction-call (mode-of form) address (l .kinds) (l .lengths) (l .bytes) (l .room)))
+    if eqb (form % 4) 0 then within-form form address (fits (l .room)) (read (l .room))
+    else (if eqb (form % 4) 1 then within-form form address (fits (length (l .bytes))) (write (l .bytes))
+    else (if eqb (form % 4) 2 then
+    within-form form address (fits (length (l .bytes)) && fits (l .room)) (write-read (l .bytes) (l .room))
+    else within-form form address (lists (l .kinds) (l .lengths) (length (l .bytes)) (l .room))
+    (transaction (Master.listed (l .kinds) (l .lengths) (l .bytes)))))
 
 -- the read buffer starts with zeros; a write has none
 abbrev pub buffer-of : ℕ → Listed → List ℕ

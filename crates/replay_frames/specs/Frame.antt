@@ -31,8 +31,9 @@ clock-of (Is f) (Is c) = opens (Clock f c) []
 clock-of (Is f) No = bad
 clock-of No c = bad
 
+-- a form has four bits
 abbrev pub master-of : Value → Value → Frame
-master-of (Is form) (Is address) = if ltb form 8 then opens (Master form address) [] else bad
+master-of (Is form) (Is address) = if ltb form 16 then opens (Master form address) [] else bad
 master-of (Is form) No = bad
 master-of No address = bad
 

@@ -50,7 +50,7 @@ fn master(form: Value, address: Value) -> Short
     match form {
         Value::Is(f) => match address {
             Value::Is(a) => {
-                if f < 8 {
+                if f < 16 {
                     return Short::Opens(Call::Master(f as u8, a as u16));
                 }
                 Short::Bad

@@ -126,7 +126,7 @@ clock-right (Is f) No = is-bad
 clock-right No c = is-bad
 
 master-right : (f a : Value) → Right (master-of f a)
-master-right (Is form) (Is address) = either (ltb form 8) (opened (Master form address) [] (came-none (wants-by form))) is-bad
+master-right (Is form) (Is address) = either (ltb form 16) (opened (Master form address) [] (came-none (wants-by form))) is-bad
 master-right (Is form) No = is-bad
 master-right No address = is-bad
 

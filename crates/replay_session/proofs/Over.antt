@@ -14,12 +14,13 @@ use Rattle.regs.specs.declared.answers.Answer.the-variants.{Refused}
 use Rattle.regs.specs.declared.answers.Refusal.the-variants.{OverLimits}
 use Rattle.regs.specs.declared.answers.Reply.{Reply}
 use Rattle.regs.specs.declared.answers.Reply.the-variants.{Answered}
-use Rattle.master.specs.Operations.{Operation, Mode, writes, reads, READ, WRITE, fits, lists, known, total}
-use Rattle.master.specs.Transfer.{read-call, write-call, write-read-call, transaction-call}
+use Rattle.master.specs.Operations.{Operation, writes, reads, READ, WRITE, fits, lists, known, total}
+use Rattle.master.specs.Operations.{read, write, write-read, transaction}
+use Rattle.master.specs.Operations as Master
 use Rattle.slave.specs.I2cSlave.{respond-to-read-call, respond-and-fill-call}
 use Rattle.slave.specs.declared.SlaveState.{SlaveState}
 use Rattle.text_hex.specs.Print.{log-text, answer-text}
-use Rattle.replay_calls.specs.Calls.{LOG-ENTRIES, replayed, Listed, listing, mode-of, transfer-of, keeping}
+use Rattle.replay_calls.specs.Calls.{LOG-ENTRIES, replayed, Listed, listing, within-form, transfer-of, keeping}
 use Rattle.replay_calls.specs.Calls.{outcome-of, outcome-text, has-buffer}
 use Rattle.replay_calls.specs.declared.Call.{Call}
 use Rattle.replay_calls.specs.declared.Call.the-variants.{Clock, Master, Reset, Listen, Respond, Fill, RespondAndFill}
@@ -119,15 +120,13 @@ transfer-refuses form address os = by (eqb (form % 4) 0) (eqb (form % 4) 1) (eqb
     l : Listed
     l = listing os
 
-    mode : Mode
-    mode = mode-of form
-
     by : (a b c : Bool) → done (after os (Now (if a then Read else (if b then Write else (if c then Both else Any))))) ≡ true
         → over l ≡ true
-        → Refuses (if a then read-call mode address (l .room) else
-        (if b then write-call mode address (l .bytes) else
-        (if c then write-read-call mode address (l .bytes) (l .room) else transaction-call mode address (l .kinds)
-        (l .lengths) (l .bytes) (l .room))))
+        → Refuses (if a then within-form form address (fits (l .room)) (read (l .room)) else
+        (if b then within-form form address (fits (length (l .bytes))) (write (l .bytes)) else
+        (if c then within-form form address (fits (length (l .bytes)) && fits (l .room)) (write-read (l .bytes) (l .room)) else
+        within-form form address (lists (l .kinds) (l .lengths) (length (l .bytes)) (l .room))
+        (transaction (Master.listed (l .kinds) (l .lengths) (l .bytes))))))
     by true b c e o = rw (beyond (l .room) (one-read os e o))
     by false true c e o = rw (beyond (length (l .bytes)) (one-write os e o))
     by false false true e o = rw (both-fit os e o)

@@ -21,7 +21,7 @@ use Rattle.replay_session.specs.declared.Took.the-variants.{Now, Never}
 
 -- ---- which operations come when
 
--- forms 0 and 4 take one `11`, 1 and 5 one `10`, 2 and 6 a `10` then an `11`, 3 and 7 any; no other call takes one
+-- by the kind, bits 0 and 1 of a form: 0 takes one `11`, 1 one `10`, 2 a `10` then an `11`, 3 any; no other call takes one
 abbrev pub wants-by : ℕ → Wants
 wants-by form = if eqb (form % 4) 0 then Read else (if eqb (form % 4) 1 then Write else (if eqb (form % 4) 2 then Both else Any))
 

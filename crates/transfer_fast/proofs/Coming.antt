@@ -1,5 +1,6 @@
 -- A transfer comes as far as the burst that begins at its point.
 use Prim.Native.Nat.{ℕ, _/_, _<_, _≤_, _^_}
+use mathlib.Core.Bool.{Bool}
 use mathlib.Core.List.{List}
 use mathlib.Core.Path.{_≡_, refl, sym, ap}
 use lib.ListN.{length}
@@ -29,8 +30,8 @@ module _ {bytes readings log buffer : List ℕ} {t : Transfer} {used entries : �
   pub not-ahead : (r .step ≡ Go (t .point)) × (r .used ≡ used) × (r .entries ≡ entries) → entries ≤ length log / 2 → length log < 2 ^ 64
       → GoesAhead bytes readings log buffer log buffer t used entries r
   not-ahead is room fits = record {
-    reaches = λ kinds lengths. rw (is .0, is .1, is .2)
-        (stays (machine kinds lengths bytes) readings room fits);
+    reaches = λ coded kinds lengths. rw (is .0, is .1, is .2)
+        (stays (machine coded kinds lengths bytes) readings room fits);
   }
 
   -- a burst, and then polls
@@ -40,33 +41,33 @@ module _ {bytes readings log buffer : List ℕ} {t : Transfer} {used entries : �
       → GoesAhead bytes readings log buffer log₂ buffer₁ t used entries r
   then-polls {buffer₁ = buffer₁} g at s is =
       record {
-        reaches = λ kinds lengths. rw (is .0, is .1, is .2)
-            (then (rw at at (g .reaches kinds lengths)) (s .reaches kinds lengths bytes t buffer₁));
+        reaches = λ coded kinds lengths. rw (is .0, is .1, is .2)
+            (then (rw at at (g .reaches coded kinds lengths)) (s .reaches coded kinds lengths bytes t buffer₁));
       }
 
   module _ {log′ buffer′ : List ℕ} {p : Point} {x : Step} {e′ u′ : ℕ} (at : t .point ≡ p)
       (is : (r .step ≡ x) × (r .used ≡ u′) × (r .entries ≡ e′)) where
-    came : ((kinds lengths : List ℕ) → Reaches (machine kinds lengths bytes) readings (with-point t p) entries used log buffer
-        (moved-to kinds lengths t x) e′ u′ log′ buffer′)
+    came : ((coded : Bool) (kinds lengths : List ℕ) → Reaches (machine coded kinds lengths bytes) readings (with-point t p) entries used log buffer
+        (moved-to coded kinds lengths t x) e′ u′ log′ buffer′)
         → GoesAhead bytes readings log buffer log′ buffer′ t used entries r
-    came f = record { reaches = λ kinds lengths. rw (is .0, is .1, is .2) (rw (at-its-point t at) at (f kinds lengths)) }
+    came f = record { reaches = λ coded kinds lengths. rw (is .0, is .1, is .2) (rw (at-its-point t at) at (f coded kinds lengths)) }
 
   module _ {log′ : List ℕ} {e′ u′ : ℕ} where
     -- byte after byte
     pub burst-ahead : {buffer′ : List ℕ} {p p′ : Point} → t .point ≡ p → (r .step ≡ Go p′) × (r .used ≡ u′) × (r .entries ≡ e′)
         → Bursts (t .len) (t .at) (t .restart) bytes readings p entries used log buffer p′ e′ u′ log′ buffer′
         → GoesAhead bytes readings log buffer log′ buffer′ t used entries r
-    burst-ahead at is b = came at is (λ kinds lengths. b .reaches kinds lengths t refl refl refl)
+    burst-ahead at is b = came at is (λ coded kinds lengths. b .reaches coded kinds lengths t refl refl refl)
 
     -- rounds of an async read
     pub rounds-ahead : {buffer′ : List ℕ} {x x′ : Round} → t .point ≡ ReadAsync (Capacity x)
         → (r .step ≡ Go (ReadAsync (Capacity x′))) × (r .used ≡ u′) × (r .entries ≡ e′)
         → Rounds (t .len) (t .at) (t .«send_stop») (t .restart) readings x entries used log buffer x′ e′ u′ log′ buffer′
         → GoesAhead bytes readings log buffer log′ buffer′ t used entries r
-    rounds-ahead at is b = came at is (λ kinds lengths. b .reaches kinds lengths bytes t refl refl refl refl)
+    rounds-ahead at is b = came at is (λ coded kinds lengths. b .reaches coded kinds lengths bytes t refl refl refl refl)
 
     -- rounds of an async write, which may end the operation
     pub fills-ahead : {i : ℕ} {x : Step} → t .point ≡ WriteAsync (Free i) → (r .step ≡ x) × (r .used ≡ u′) × (r .entries ≡ e′)
         → Fills (t .len) (t .at) (t .«send_stop») bytes readings i entries used log x e′ u′ log′
         → GoesAhead bytes readings log buffer log′ buffer t used entries r
-    fills-ahead at is b = came at is (λ kinds lengths. b .reaches kinds lengths t buffer refl refl refl)
+    fills-ahead at is b = came at is (λ coded kinds lengths. b .reaches coded kinds lengths t buffer refl refl refl)

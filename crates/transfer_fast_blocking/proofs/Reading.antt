@@ -22,16 +22,16 @@ use Rattle.regs_runs.proofs.Reach.{stays, did-read, did-write}
 use Rattle.transfer_fast_blocking.specs.inner.Bursts.{Bursts, ForAny, straight-read}
 use Rattle.regs_runs.proofs.Turns.{Turns, turn}
 
-module _ (kinds lengths bytes : List ℕ) {readings : List ℕ} (t : Transfer) {s₀ : Transfer} {e₀ u₀ : ℕ}
+module _ (coded : Bool) (kinds lengths bytes : List ℕ) {readings : List ℕ} (t : Transfer) {s₀ : Transfer} {e₀ u₀ : ℕ}
     {l₀ b₀ : List ℕ} {i e u : ℕ} {l b : List ℕ} where
-  byte-read : Reaches (machine kinds lengths bytes) readings s₀ e₀ u₀ l₀ b₀ (with-point t (ReadBlocking (Room i))) e u l b
+  byte-read : Reaches (machine coded kinds lengths bytes) readings s₀ e₀ u₀ l₀ b₀ (with-point t (ReadBlocking (Room i))) e u l b
       → e + 4 ≤ length l₀ / 2
       → u + 3 ≤ length readings
       → level (getD readings u 0) < 16
       → (level (getD readings (u + 1) 0) ≡ 0 → ⊥)
       → i + 1 < t .len
       → t .at + i < 2 ^ 64
-      → Reaches (machine kinds lengths bytes) readings s₀ e₀ u₀ l₀ b₀ (with-point t (ReadBlocking (Room (i + 1)))) (e + 4) (u + 3)
+      → Reaches (machine coded kinds lengths bytes) readings s₀ e₀ u₀ l₀ b₀ (with-point t (ReadBlocking (Room (i + 1)))) (e + 4) (u + 3)
       (entered (entered (entered (entered l e (0x100 + TXFLR) (getD readings u 0)) (e + 1) (0x200 + DATA-CMD)
       (command-word 0 true false (t .restart && eqb i 0)))
       (e + 2) (0x100 + RXFLR) (getD readings (u + 1) 0))
@@ -40,7 +40,7 @@ module _ (kinds lengths bytes : List ℕ) {readings : List ℕ} (t : Transfer) {
   unfolding next-at next-read read-word store-at store-read step-of step-read room-step level-step places
   byte-read g room left free filled more place =
       let n = level (getD readings u 0) in
-      let M = machine kinds lengths bytes in
+      let M = machine coded kinds lengths bytes in
       let a : M .advance (with-point t (ReadBlocking (Room i))) (getD readings u 0) ≡ with-point t (ReadBlocking (Ask i)) =
       rw (le-ltb 16 n (omega (arith, free)), ne-eqb (16 - n) 0 (λ (z : 16 - n ≡ 0). omega (arith, free, z))) in
       let g₁ = did-read g refl (omega (arith, room)) (omega (arith, left)) a refl refl in
@@ -77,7 +77,7 @@ pub read-none : {from len at : ℕ} {restart : Bool} {readings : List ℕ} {used
     → length l < 2 ^ 64
     → Came from len at restart readings used l entries b from used entries l b
 read-none {readings = readings} has fits =
-    λ bytes. record { reaches = λ kinds lengths t el ea er. stays (machine kinds lengths bytes) readings has fits }
+    λ bytes. record { reaches = λ coded kinds lengths t el ea er. stays (machine coded kinds lengths bytes) readings has fits }
 
 pub read-next : {from len at : ℕ} {restart : Bool} {readings : List ℕ} {used : ℕ} {l₀ : List ℕ} {entries : ℕ}
     {b₀ l b : List ℕ} {n i u k : ℕ}
@@ -100,9 +100,9 @@ read-next {from} {len} {at} {restart} {readings} {used} {l₀} {entries} {b₀} 
     let place : at + i < 2 ^ 64 = omega (arith, g .held, g .fits .0, next) in
     turn g more
     (λ bytes. record {
-      reaches = λ kinds lengths t el ea er.
+      reaches = λ coded kinds lengths t el ea er.
           rw (e₄, e₃, e₂, e₁, eb, ew, ← ea, ← er)
-          (byte-read kinds lengths bytes t (g .came bytes .reaches kinds lengths t el ea er) has-room has-left free
+          (byte-read coded kinds lengths bytes t (g .came bytes .reaches coded kinds lengths t el ea er) has-room has-left free
           filled (rw el next) (rw ea place));
     })
     (omega (arith, g .room, more))

@@ -24,18 +24,18 @@ use Rattle.regs_runs.proofs.Reach.{stays, did-read, did-write}
 use Rattle.transfer_fast_blocking.specs.inner.Bursts.{Bursts, ForAny, straight-write}
 use Rattle.regs_runs.proofs.Turns.{Turns, turn}
 
-module _ (kinds lengths bytes : List ℕ) {readings : List ℕ} (t : Transfer) {s₀ : Transfer} {e₀ u₀ : ℕ}
+module _ (coded : Bool) (kinds lengths bytes : List ℕ) {readings : List ℕ} (t : Transfer) {s₀ : Transfer} {e₀ u₀ : ℕ}
     {l₀ b₀ : List ℕ} {i e u : ℕ} {l b : List ℕ} where
-  byte-written : Reaches (machine kinds lengths bytes) readings s₀ e₀ u₀ l₀ b₀ (with-point t (WriteBlocking (Send i))) e u l b
+  byte-written : Reaches (machine coded kinds lengths bytes) readings s₀ e₀ u₀ l₀ b₀ (with-point t (WriteBlocking (Send i))) e u l b
       → e + 3 ≤ length l₀ / 2 → u + 2 ≤ length readings → tx-empty (getD readings u 0) ≡ true → getD readings (u + 1) 0 ≡ 0 → i + 1 < t .len
-      → Reaches (machine kinds lengths bytes) readings s₀ e₀ u₀ l₀ b₀ (with-point t (WriteBlocking (Send (i + 1)))) (e + 3) (u + 2)
+      → Reaches (machine coded kinds lengths bytes) readings s₀ e₀ u₀ l₀ b₀ (with-point t (WriteBlocking (Send (i + 1)))) (e + 3) (u + 2)
       (entered (entered (entered l e (0x200 + DATA-CMD) (command-word (getD bytes (t .at + i) 0) false false false))
       (e + 1) (0x100 + RAW-INTR-STAT) (getD readings u 0))
       (e + 2) (0x100 + TX-ABRT-SOURCE) (getD readings (u + 1) 0))
       b
   unfolding next-at next-write next-abort write-word store-at step-of step-write step-abort returned closes
   byte-written g room left sent quiet more =
-      let M = machine kinds lengths bytes in
+      let M = machine coded kinds lengths bytes in
       let last : eqb i (t .len - 1) ≡ false = ne-eqb i (t .len - 1) (λ (z : i ≡ t .len - 1). omega (arith, more, z)) in
       let g₁ = did-write g {r = DATA-CMD} {x = command-word (getD bytes (t .at + i) 0) false false false}
       (rw (last, and-false)) (omega (arith, room)) refl refl in
@@ -72,7 +72,7 @@ pub write-none : {from len at : ℕ} {bytes readings : List ℕ} {used : ℕ} {l
     → length l < 2 ^ 64
     → Came from len at bytes readings used l entries from used entries l
 write-none {bytes = bytes} {readings = readings} has fits = λ restart buffer. record {
-  reaches = λ kinds lengths t el ea er. stays (machine kinds lengths bytes) readings has fits;
+  reaches = λ coded kinds lengths t el ea er. stays (machine coded kinds lengths bytes) readings has fits;
 }
 
 pub write-next : {from len at : ℕ} {bytes readings : List ℕ} {used : ℕ} {l₀ : List ℕ} {entries : ℕ} {l : List ℕ} {n i u k : ℕ}
@@ -90,9 +90,9 @@ write-next {from} {len} {at} {bytes} {readings} {used} {l₀} {entries} {l} {n} 
     let next : i + 1 < len = omega (arith, g .short, more) in
     turn g more
     (λ restart buffer. record {
-      reaches = λ kinds lengths t el ea er.
+      reaches = λ coded kinds lengths t el ea er.
           rw (e₃, e₂, e₁, ew, ← ea)
-          (byte-written kinds lengths bytes t (g .came restart buffer .reaches kinds lengths t el ea er) has-room
+          (byte-written coded kinds lengths bytes t (g .came restart buffer .reaches coded kinds lengths t el ea er) has-room
           has-left (both .0) (eqb-true (getD readings (u + 1) 0) 0 (both .1)) (rw el next));
     })
     (omega (arith, g .room, more))

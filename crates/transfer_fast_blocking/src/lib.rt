@@ -18,9 +18,10 @@ pub struct Burst {
     pub entries: usize,
 }
 
-// Whether byte i is one of an operation's, its bytes have their places, and the readings were there.
+// Whether byte i is one of an operation's, its bytes have their places, but perhaps the last one, and
+// the readings were there. The last byte of a coded transfer is its code, which is past the lent slice.
 pub fn is_within(i: u16, len: u16, at: usize, length: usize, used: usize, count: usize) -> bool
-    ensures { λ r. ⌜ (r ≡ true → (i < len) × (at + len ≤ length) × (used ≤ count)) ⌝ }
+    ensures { λ r. ⌜ (r ≡ true → (i < len) × (at + len ≤ length + 1) × (used ≤ count)) ⌝ }
 {
     if i >= len {
         return false;
@@ -31,7 +32,7 @@ pub fn is_within(i: u16, len: u16, at: usize, length: usize, used: usize, count:
     if at > length {
         return false;
     }
-    len as usize <= length - at
+    len as usize - 1 <= length - at
 }
 
 // The places of the transmit FIFO that are free by TXFLR: a round of an async operation fills them.

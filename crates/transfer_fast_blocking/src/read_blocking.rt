@@ -34,7 +34,7 @@ fn run(
     buffer: &mut [u8],
 ) -> Burst
     requires { ⌜ (from < len)
-        × (at + len ≤ length (now buffer))
+        × (at + len ≤ length (now buffer) + 1)
         × (used ≤ length (now readings))
         × (entries ≤ length (now log) / 2) ⌝ }
     ensures { λ r. ⌜ ForAny

@@ -34,7 +34,7 @@ fn run(
     entries: usize,
 ) -> Burst
     requires { ⌜ (from < len)
-        × (at + len ≤ length (now bytes))
+        × (at + len ≤ length (now bytes) + 1)
         × (used ≤ length (now readings))
         × (entries ≤ length (now log) / 2) ⌝ }
     ensures { λ r. ⌜ ForAny

@@ -29,16 +29,16 @@ pub stop-awaits : (had : Tried) → AwaitsFlag true (WriteBlocking (StopDet had)
 unfolding next-at next-write store-at step-of step-write
 stop-awaits had = record { reads = λ bytes t. refl; keeps = λ t v. refl; waits = λ len send-stop v unset. rw unset }
 
-module _ (kinds lengths bytes : List ℕ) {readings : List ℕ} (t : Transfer) {s₀ : Transfer} {e₀ u₀ : ℕ}
+module _ (coded : Bool) (kinds lengths bytes : List ℕ) {readings : List ℕ} (t : Transfer) {s₀ : Transfer} {e₀ u₀ : ℕ}
     {l₀ b₀ : List ℕ} {p : Point} {stop : Bool} {e u : ℕ} {l b : List ℕ} where
-  poll-unset : Reaches (machine kinds lengths bytes) readings s₀ e₀ u₀ l₀ b₀ (with-point t p) e u l b
+  poll-unset : Reaches (machine coded kinds lengths bytes) readings s₀ e₀ u₀ l₀ b₀ (with-point t p) e u l b
       → AwaitsFlag stop p
       → flag-set stop (getD readings u 0) ≡ false
       → e < length l₀ / 2 → u < length readings
-      → Reaches (machine kinds lengths bytes) readings s₀ e₀ u₀ l₀ b₀ (with-point t p) (e + 1) (u + 1)
+      → Reaches (machine coded kinds lengths bytes) readings s₀ e₀ u₀ l₀ b₀ (with-point t p) (e + 1) (u + 1)
       (entered l e (0x100 + RAW-INTR-STAT) (getD readings u 0)) b
   poll-unset g at unset room left =
-      let M = machine kinds lengths bytes in
+      let M = machine coded kinds lengths bytes in
       let a : M .advance (with-point t p) (getD readings u 0) ≡ with-point t p =
       rw (at .waits (t .len) (t .«send_stop») (getD readings u 0) unset) in
       rw (at .keeps (with-point t p) (getD readings u 0)) at (did-read g (at .reads bytes (with-point t p)) room left a refl refl)
@@ -56,7 +56,7 @@ pub none : {stop : Bool} {readings : List ℕ} {used : ℕ} {l : List ℕ} {entr
     → length l < 2 ^ 64
     → Came stop readings used l entries used entries l
 none {readings = readings} has fits =
-    λ p at. record { reaches = λ kinds lengths bytes t b. stays (machine kinds lengths bytes) readings has fits }
+    λ p at. record { reaches = λ coded kinds lengths bytes t b. stays (machine coded kinds lengths bytes) readings has fits }
 
 pub next : {stop : Bool} {readings : List ℕ} {used : ℕ} {l₀ : List ℕ} {entries : ℕ} {l : List ℕ} {n u k : ℕ}
     → Polling stop readings used l₀ entries l n u k
@@ -70,8 +70,8 @@ next {stop} {readings} {used} {l₀} {entries} {l} {n} {u} {k} g more unset e′
     let has-left : u < length readings = omega (arith, g .left, more) in
     poll g
     (λ p at. record {
-      reaches = λ kinds lengths bytes t b. rw e′
-          (poll-unset kinds lengths bytes t (g .came p at .reaches kinds lengths bytes t b) at unset has-room
+      reaches = λ coded kinds lengths bytes t b. rw e′
+          (poll-unset coded kinds lengths bytes t (g .came p at .reaches coded kinds lengths bytes t b) at unset has-room
           has-left);
     })
     (omega (arith, g .room, more))

@@ -1,7 +1,7 @@
 -- A blocking read waits for its byte.
 use Prim.Native.Nat.{ℕ, _+_, _/_, _-_, _<_, _≤_, _^_}
 use native.Mathlib.Omega.{arith}
-use mathlib.Core.Bool.{true}
+use mathlib.Core.Bool.{Bool, true}
 use mathlib.Core.List.{List}
 use mathlib.Core.Path.{_≡_, refl}
 use lib.Dec.{eqb}
@@ -24,17 +24,17 @@ use Rattle.regs_runs.proofs.Turns.{Polls, poll}
 use Rattle.transfer_fast_blocking.specs.inner.Bursts.{ForAny}
 use Rattle.transfer_fast_polls.specs.inner.Stays.{Stays, no-byte}
 
-module _ (kinds lengths bytes : List ℕ) {readings : List ℕ} (t : Transfer) {s₀ : Transfer} {e₀ u₀ : ℕ}
+module _ (coded : Bool) (kinds lengths bytes : List ℕ) {readings : List ℕ} (t : Transfer) {s₀ : Transfer} {e₀ u₀ : ℕ}
     {l₀ b₀ : List ℕ} {i e u : ℕ} {l b : List ℕ} where
-  poll-empty : Reaches (machine kinds lengths bytes) readings s₀ e₀ u₀ l₀ b₀ (with-point t (ReadBlocking (Level i)))
+  poll-empty : Reaches (machine coded kinds lengths bytes) readings s₀ e₀ u₀ l₀ b₀ (with-point t (ReadBlocking (Level i)))
       e u l b
       → no-byte (getD readings u 0) (getD readings (u + 1) 0) ≡ true
       → e + 2 ≤ length l₀ / 2 → u + 2 ≤ length readings
-      → Reaches (machine kinds lengths bytes) readings s₀ e₀ u₀ l₀ b₀ (with-point t (ReadBlocking (Level i))) (e + 2) (u + 2)
+      → Reaches (machine coded kinds lengths bytes) readings s₀ e₀ u₀ l₀ b₀ (with-point t (ReadBlocking (Level i))) (e + 2) (u + 2)
       (entered (entered l e (0x100 + RXFLR) (getD readings u 0)) (e + 1) (0x100 + TX-ABRT-SOURCE) (getD readings (u + 1) 0)) b
   unfolding next-at next-read next-abort store-at store-read step-of step-read level-step step-abort returned
   poll-empty g empty room left =
-      let M = machine kinds lengths bytes in
+      let M = machine coded kinds lengths bytes in
       let both = both-of (eqb (level (getD readings u 0)) 0) (eqb (getD readings (u + 1) 0) 0) empty in
       let a₁ : M .advance (with-point t (ReadBlocking (Level i))) (getD readings u 0)
       ≡ with-point t (Abort Source (Read i)) = rw (both .0) in
@@ -57,7 +57,7 @@ pub none : {readings : List ℕ} {used : ℕ} {l : List ℕ} {entries : ℕ}
     → entries ≤ length l / 2
     → length l < 2 ^ 64
     → Came readings used l entries used entries l
-none {readings} has fits = λ i. record { reaches = λ kinds lengths bytes t b. stays (machine kinds lengths bytes) readings has fits }
+none {readings} has fits = λ i. record { reaches = λ coded kinds lengths bytes t b. stays (machine coded kinds lengths bytes) readings has fits }
 
 pub next : {readings : List ℕ} {used : ℕ} {l₀ : List ℕ} {entries : ℕ} {l : List ℕ} {n u k : ℕ}
     → Polling readings used l₀ entries l n u k
@@ -72,8 +72,8 @@ next {readings} {used} {l₀} {entries} {l} {n} {u} {k} g more empty e₁ e₂ =
     let has-left : u + 2 ≤ length readings = omega (arith, g .left, more) in
     poll g
     (λ i. record {
-      reaches = λ kinds lengths bytes t b. rw (e₂, e₁)
-          (poll-empty kinds lengths bytes t (g .came i .reaches kinds lengths bytes t b) empty has-room has-left);
+      reaches = λ coded kinds lengths bytes t b. rw (e₂, e₁)
+          (poll-empty coded kinds lengths bytes t (g .came i .reaches coded kinds lengths bytes t b) empty has-room has-left);
     })
     (omega (arith, g .room, more))
     (omega (arith, g .left, more))

@@ -18,7 +18,7 @@ pub still : {p : Point} {readings : List ℕ} {used : ℕ} {l : List ℕ} {entri
     → length l < 2 ^ 64
     → Stays p readings entries used l (r .entries) (r .used) l
 still {readings = readings} is room fits = record {
-  reaches = λ kinds lengths bytes t b. rw (is .0, is .1) (stays (machine kinds lengths bytes) readings room fits);
+  reaches = λ coded kinds lengths bytes t b. rw (is .0, is .1) (stays (machine coded kinds lengths bytes) readings room fits);
 }
 
 pub at : {p q : Point} {readings : List ℕ} {e u : ℕ} {l : List ℕ} {e′ u′ : ℕ} {l′ : List ℕ}

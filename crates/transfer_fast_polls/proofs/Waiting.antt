@@ -35,7 +35,7 @@ pub batch-none : {batch : ℕ} {readings : List ℕ} {used : ℕ} {l : List ℕ}
     → length l < 2 ^ 64
     → BatchCame batch readings used l entries used entries l
 batch-none {readings = readings} has fits =
-    λ x is. record { reaches = λ kinds lengths bytes t b. stays (machine kinds lengths bytes) readings has fits }
+    λ x is. record { reaches = λ coded kinds lengths bytes t b. stays (machine coded kinds lengths bytes) readings has fits }
 
 pub batch-next : {batch : ℕ} {readings : List ℕ} {used : ℕ} {l₀ : List ℕ} {entries : ℕ} {l : List ℕ} {n u k : ℕ}
     → BatchWaiting batch readings used l₀ entries l n u k
@@ -53,8 +53,8 @@ batch-next {batch} {readings} {used} {l₀} {entries} {l} {n} {u} {k} g more few
     let has-left : u + 3 ≤ length readings = omega (arith, g .left, more) in
     poll g
     (λ x is. record {
-      reaches = λ kinds lengths bytes t b. rw (e′, ew, e₃, e₂, e₁, ← is)
-          (batch-waits kinds lengths bytes t (g .came x is .reaches kinds lengths bytes t b) (rw is few) has-room
+      reaches = λ coded kinds lengths bytes t b. rw (e′, ew, e₃, e₂, e₁, ← is)
+          (batch-waits coded kinds lengths bytes t (g .came x is .reaches coded kinds lengths bytes t b) (rw is few) has-room
           has-left);
     })
     (omega (arith, g .room, more))
@@ -74,7 +74,7 @@ pub space-none : {readings : List ℕ} {used : ℕ} {l : List ℕ} {entries : �
     → length l < 2 ^ 64
     → SpaceCame readings used l entries used entries l
 space-none {readings = readings} has fits =
-    λ i. record { reaches = λ kinds lengths bytes t b. stays (machine kinds lengths bytes) readings has fits }
+    λ i. record { reaches = λ coded kinds lengths bytes t b. stays (machine coded kinds lengths bytes) readings has fits }
 
 pub space-next : {readings : List ℕ} {used : ℕ} {l₀ : List ℕ} {entries : ℕ} {l : List ℕ} {n u k : ℕ}
     → SpaceWaiting readings used l₀ entries l n u k
@@ -92,8 +92,8 @@ space-next {readings} {used} {l₀} {entries} {l} {n} {u} {k} g more few e₁ e�
     let has-left : u + 3 ≤ length readings = omega (arith, g .left, more) in
     poll g
     (λ i. record {
-      reaches = λ kinds lengths bytes t b. rw (e′, ew, e₃, e₂, e₁)
-          (space-waits kinds lengths bytes t (g .came i .reaches kinds lengths bytes t b) few has-room has-left);
+      reaches = λ coded kinds lengths bytes t b. rw (e′, ew, e₃, e₂, e₁)
+          (space-waits coded kinds lengths bytes t (g .came i .reaches coded kinds lengths bytes t b) few has-room has-left);
     })
     (omega (arith, g .room, more))
     (omega (arith, g .left, more))
@@ -112,7 +112,7 @@ pub stop-none : {readings : List ℕ} {used : ℕ} {l : List ℕ} {entries : ℕ
     → length l < 2 ^ 64
     → StopCame readings used l entries used entries l
 stop-none {readings = readings} has fits =
-    record { reaches = λ kinds lengths bytes t b. stays (machine kinds lengths bytes) readings has fits }
+    record { reaches = λ coded kinds lengths bytes t b. stays (machine coded kinds lengths bytes) readings has fits }
 
 pub stop-next : {readings : List ℕ} {used : ℕ} {l₀ : List ℕ} {entries : ℕ} {l : List ℕ} {n u k : ℕ}
     → StopWaiting readings used l₀ entries l n u k
@@ -129,8 +129,8 @@ stop-next {readings} {used} {l₀} {entries} {l} {n} {u} {k} g more few e₁ e�
     let has-left : u + 3 ≤ length readings = omega (arith, g .left, more) in
     poll g
     (record {
-      reaches = λ kinds lengths bytes t b. rw (e′, ew, e₂, e₁)
-          (stop-waits kinds lengths bytes t (g .came .reaches kinds lengths bytes t b) few has-room has-left);
+      reaches = λ coded kinds lengths bytes t b. rw (e′, ew, e₂, e₁)
+          (stop-waits coded kinds lengths bytes t (g .came .reaches coded kinds lengths bytes t b) few has-room has-left);
     })
     (omega (arith, g .room, more))
     (omega (arith, g .left, more))

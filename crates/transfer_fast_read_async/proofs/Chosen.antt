@@ -10,7 +10,7 @@ use Rattle.transfer.specs.declared.Transfer.{Transfer}
 use Rattle.transfer.specs.declared.Point.{Point}
 use Rattle.transfer.specs.declared.Step.the-variants.{Go}
 
-pub chosen : (kinds lengths : List ℕ) (t : Transfer) (z : Bool) (p q : Point)
-    → moved-to kinds lengths t (if z then Go p else Go q) ≡ with-point t (if z then p else q)
-chosen kinds lengths t true p q = refl
-chosen kinds lengths t false p q = refl
+pub chosen : (coded : Bool) (kinds lengths : List ℕ) (t : Transfer) (z : Bool) (p q : Point)
+    → moved-to coded kinds lengths t (if z then Go p else Go q) ≡ with-point t (if z then p else q)
+chosen coded kinds lengths t true p q = refl
+chosen coded kinds lengths t false p q = refl

@@ -1,7 +1,7 @@
 -- The bytes of a round of an async read.
 use Prim.Native.Nat.{ℕ, _+_, _/_, _-_, _%_, _<_, _≤_, _^_}
 use native.Mathlib.Omega.{arith}
-use mathlib.Core.Bool.{false}
+use mathlib.Core.Bool.{Bool, false}
 use mathlib.Core.List.{List}
 use mathlib.Core.Path.{_≡_, refl}
 use lib.Dec.{eqb}
@@ -27,26 +27,26 @@ use Rattle.transfer_fast_read_async.proofs.Chosen.{chosen}
 abbrev pub fetched : Round → ℕ → Point
 fetched r left = if eqb left 0 then ReadAsync (Capacity r) else ReadAsync (Fetch r left)
 
-module _ (kinds lengths bytes : List ℕ) {readings : List ℕ} (t : Transfer) {s₀ : Transfer} {e₀ u₀ : ℕ}
+module _ (coded : Bool) (kinds lengths bytes : List ℕ) {readings : List ℕ} (t : Transfer) {s₀ : Transfer} {e₀ u₀ : ℕ}
     {l₀ b₀ : List ℕ} (remaining queue batch left place : ℕ) {e u : ℕ} {l b : List ℕ} where
-  byte-fetched : Reaches (machine kinds lengths bytes) readings s₀ e₀ u₀ l₀ b₀
+  byte-fetched : Reaches (machine coded kinds lengths bytes) readings s₀ e₀ u₀ l₀ b₀
       (with-point t (fetched (round remaining queue batch) left)) e u l b
       → 0 < left
       → 0 < remaining
       → e < length l₀ / 2 → u < length readings → (t .at + (t .len - remaining - left)) % 2 ^ 64 ≡ place
-      → Reaches (machine kinds lengths bytes) readings s₀ e₀ u₀ l₀ b₀
+      → Reaches (machine coded kinds lengths bytes) readings s₀ e₀ u₀ l₀ b₀
       (with-point t (fetched (round remaining queue batch) (left - 1))) (e + 1) (u + 1)
       (entered l e (0x100 + DATA-CMD) (getD readings u 0)) (set b place (dat (getD readings u 0)))
   unfolding next-at next-round store-at store-round step-of step-round fetching next-turn
   byte-fetched g more some room has to =
       let not-yet : eqb left 0 ≡ false = ne-eqb left 0 (λ (z : left ≡ 0). omega (arith, more, z)) in
       let remains : eqb remaining 0 ≡ false = ne-eqb remaining 0 (λ (z : remaining ≡ 0). omega (arith, some, z)) in
-      let at : Reaches (machine kinds lengths bytes) readings s₀ e₀ u₀ l₀ b₀
+      let at : Reaches (machine coded kinds lengths bytes) readings s₀ e₀ u₀ l₀ b₀
       (with-point t (ReadAsync (Fetch (round remaining queue batch) left))) e u l b = rw not-yet at g in
-      let next : machine kinds lengths bytes .advance
+      let next : machine coded kinds lengths bytes .advance
       (with-point t (ReadAsync (Fetch (round remaining queue batch) left))) (getD readings u 0)
       ≡ with-point t (fetched (round remaining queue batch) (left - 1)) =
-      rw remains (chosen kinds lengths (with-point t (ReadAsync (Fetch (round remaining queue batch) left)))
+      rw remains (chosen coded kinds lengths (with-point t (ReadAsync (Fetch (round remaining queue batch) left)))
       (eqb (left - 1) 0) (ReadAsync (Capacity (round remaining queue batch)))
       (ReadAsync (Fetch (round remaining queue batch) (left - 1)))) in
       rw to at (did-read at refl room has next refl refl)
@@ -54,8 +54,8 @@ module _ (kinds lengths bytes : List ℕ) {readings : List ℕ} (t : Transfer) {
 -- the loop's head
 pub record Fetching (remaining n len at : ℕ) (readings : List ℕ) (u₀ : ℕ) (l₀ : List ℕ) (e₀ : ℕ) (b₀ l b : List ℕ)
     (place left u e : ℕ) : Type 0 where
-  pub came : (kinds lengths bytes : List ℕ) (t : Transfer) (queue batch : ℕ) → t .len ≡ len → t .at ≡ at
-      → Reaches (machine kinds lengths bytes) readings
+  pub came : (coded : Bool) (kinds lengths bytes : List ℕ) (t : Transfer) (queue batch : ℕ) → t .len ≡ len → t .at ≡ at
+      → Reaches (machine coded kinds lengths bytes) readings
       (with-point t (ReadAsync (Fetch (round remaining queue batch) n))) e₀ u₀ l₀ b₀
       (with-point t (fetched (round remaining queue batch) left)) e u l b
   pub some : 0 < remaining
@@ -64,7 +64,7 @@ pub record Fetching (remaining n len at : ℕ) (readings : List ℕ) (u₀ : ℕ
   pub stored : place + remaining + left ≡ at + len
   pub counted : e + left ≡ e₀ + n
   pub taken : u + left ≡ u₀ + n
-  pub held : at + len ≤ length b₀
+  pub held : at + len ≤ length b₀ + 1
   pub room : e₀ + n ≤ length l₀ / 2
   pub has : u₀ + n ≤ length readings
   pub long : length l ≡ length l₀
@@ -76,7 +76,7 @@ module _ {remaining n len at : ℕ} {readings : List ℕ} {u₀ : ℕ} {l₀ : L
       → 0 < n
       → 0 < remaining
       → remaining + n ≤ len
-      → at + len ≤ length b₀
+      → at + len ≤ length b₀ + 1
       → u₀ + n ≤ length readings
       → e₀ + n ≤ length l₀ / 2
       → length b₀ < 2 ^ 64
@@ -86,8 +86,8 @@ module _ {remaining n len at : ℕ} {readings : List ℕ} {u₀ : ℕ} {l₀ : L
       → Fetching remaining n len at readings u₀ l₀ e₀ b₀ l₀ b₀ place n u₀ e₀
   none-fetched some remains within held has room fits fits-log fits-readings to =
       record {
-        came = λ kinds lengths bytes t queue batch el ea. rw (ne-eqb n 0 (λ (z : n ≡ 0). omega (arith, some, z)))
-            (stays (machine kinds lengths bytes) readings (omega (arith, room)) fits-log);
+        came = λ coded kinds lengths bytes t queue batch el ea. rw (ne-eqb n 0 (λ (z : n ≡ 0). omega (arith, some, z)))
+            (stays (machine coded kinds lengths bytes) readings (omega (arith, room)) fits-log);
         some = remains;
         within = within;
         few = omega arith;
@@ -111,13 +111,13 @@ module _ {remaining n len at : ℕ} {readings : List ℕ} {u₀ : ℕ} {l₀ : L
   one-fetched {l} {b} {place} {left} {u} {e} g more el′ eb′ =
       let to : (at + (len - remaining - left)) % 2 ^ 64 ≡ place =
       let exact : at + (len - remaining - left) ≡ place = omega (arith, g .stored, g .within, g .few) in
-      let small : place < 2 ^ 64 = omega (arith, g .stored, g .held, g .fits .0) in
+      let small : place < 2 ^ 64 = omega (arith, g .stored, g .some, g .held, g .fits .0) in
       rw exact (omega (arith, small)) in
       record {
-        came = λ kinds lengths bytes t queue batch el ea.
+        came = λ coded kinds lengths bytes t queue batch el ea.
             rw (el′, eb′)
-            (byte-fetched kinds lengths bytes t remaining queue batch left place
-            (g .came kinds lengths bytes t queue batch el ea) more (g .some)
+            (byte-fetched coded kinds lengths bytes t remaining queue batch left place
+            (g .came coded kinds lengths bytes t queue batch el ea) more (g .some)
             (omega (arith, g .counted, g .room, more)) (omega (arith, g .taken, g .has, more))
             (rw (el, ea) to));
         some = g .some;
@@ -142,6 +142,6 @@ module _ {remaining n len at : ℕ} {readings : List ℕ} {u₀ : ℕ} {l₀ : L
       let ee : e₀ + n ≡ e = omega (arith, g .counted, z) in
       let eu : u₀ + n ≡ u = omega (arith, g .taken, z) in
       record {
-        reaches = λ kinds lengths bytes t queue batch el ea. rw (ee, eu)
-            (rw z at (g .came kinds lengths bytes t queue batch el ea));
+        reaches = λ coded kinds lengths bytes t queue batch el ea. rw (ee, eu)
+            (rw z at (g .came coded kinds lengths bytes t queue batch el ea));
       }

@@ -26,35 +26,35 @@ use Rattle.transfer_fast_read_async.proofs.Chosen.{chosen}
 abbrev pub queueing : Round → ℕ → Point
 queueing r left = if eqb left 0 then ReadAsync (Level r) else ReadAsync (Queue r left)
 
-module _ (kinds lengths bytes : List ℕ) {readings : List ℕ} (t : Transfer) {s₀ : Transfer} {e₀ u₀ : ℕ}
+module _ (coded : Bool) (kinds lengths bytes : List ℕ) {readings : List ℕ} (t : Transfer) {s₀ : Transfer} {e₀ u₀ : ℕ}
     {l₀ b₀ : List ℕ} (remaining q batch left : ℕ) {e u : ℕ} {l b : List ℕ} where
-  word-queued : Reaches (machine kinds lengths bytes) readings s₀ e₀ u₀ l₀ b₀
+  word-queued : Reaches (machine coded kinds lengths bytes) readings s₀ e₀ u₀ l₀ b₀
       (with-point t (queueing (round remaining q batch) left)) e u l b
       → 0 < left
       → e < length l₀ / 2
-      → Reaches (machine kinds lengths bytes) readings s₀ e₀ u₀ l₀ b₀
+      → Reaches (machine coded kinds lengths bytes) readings s₀ e₀ u₀ l₀ b₀
       (with-point t (queueing (round remaining (q - 1) batch) (left - 1))) (e + 1) u
       (entered l e (0x200 + DATA-CMD) (queue-word q (t .len) (t .«send_stop») (t .restart))) b
   unfolding next-at next-round store-at store-round step-of step-round queued
   word-queued g more room =
       let some : eqb left 0 ≡ false = ne-eqb left 0 (λ (z : left ≡ 0). omega (arith, more, z)) in
-      let at : Reaches (machine kinds lengths bytes) readings s₀ e₀ u₀ l₀ b₀
+      let at : Reaches (machine coded kinds lengths bytes) readings s₀ e₀ u₀ l₀ b₀
       (with-point t (ReadAsync (Queue (round remaining q batch) left))) e u l b = rw some at g in
-      let next : machine kinds lengths bytes .advance
+      let next : machine coded kinds lengths bytes .advance
       (with-point t (ReadAsync (Queue (round remaining q batch) left))) 0
       ≡ with-point t (queueing (round remaining (q - 1) batch) (left - 1)) =
-      chosen kinds lengths (with-point t (ReadAsync (Queue (round remaining q batch) left))) (eqb (left - 1) 0)
+      chosen coded kinds lengths (with-point t (ReadAsync (Queue (round remaining q batch) left))) (eqb (left - 1) 0)
       (ReadAsync (Level (round remaining (q - 1) batch)))
       (ReadAsync (Queue (round remaining (q - 1) batch) (left - 1))) in
       did-write at refl room next refl
 
 -- the loop's head
 pub record Queueing (queue words len : ℕ) (send-stop restart : Bool) (l₀ : List ℕ) (e₀ : ℕ) (l : List ℕ) (q left e : ℕ) : Type 0 where
-  pub came : (kinds lengths bytes readings : List ℕ) (t : Transfer) (remaining batch u : ℕ) (b : List ℕ)
+  pub came : (coded : Bool) (kinds lengths bytes readings : List ℕ) (t : Transfer) (remaining batch u : ℕ) (b : List ℕ)
       → t .len ≡ len
       → t .«send_stop» ≡ send-stop
       → t .restart ≡ restart
-      → Reaches (machine kinds lengths bytes) readings
+      → Reaches (machine coded kinds lengths bytes) readings
       (with-point t (ReadAsync (Queue (round remaining queue batch) words))) e₀ u l₀ b
       (with-point t (queueing (round remaining q batch) left)) e u l b
   pub queue-left : q + words ≡ queue + left
@@ -72,9 +72,9 @@ module _ {queue words len : ℕ} {send-stop restart : Bool} {l₀ : List ℕ} {e
       → Queueing queue words len send-stop restart l₀ e₀ l₀ queue words e₀
   none-queued some enough room fits =
       record {
-        came = λ kinds lengths bytes readings t remaining batch u b el es er. rw
+        came = λ coded kinds lengths bytes readings t remaining batch u b el es er. rw
             (ne-eqb words 0 (λ (z : words ≡ 0). omega (arith, some, z)))
-            (stays (machine kinds lengths bytes) readings (omega (arith, room)) fits);
+            (stays (machine coded kinds lengths bytes) readings (omega (arith, room)) fits);
         queue-left = refl;
         enough = enough;
         counted = refl;
@@ -91,10 +91,10 @@ module _ {queue words len : ℕ} {send-stop restart : Bool} {l₀ : List ℕ} {e
       → l′ ≡ entered l e (0x200 + DATA-CMD) w → Queueing queue words len send-stop restart l₀ e₀ l′ (q - 1) (left - 1) (e + 1)
   one-queued {l} {q} {left} {e} g more ew el′ =
       record {
-        came = λ kinds lengths bytes readings t remaining batch u b el es er.
+        came = λ coded kinds lengths bytes readings t remaining batch u b el es er.
             rw (el′, ew, ← el, ← es, ← er)
-            (word-queued kinds lengths bytes t remaining q batch left
-            (g .came kinds lengths bytes readings t remaining batch u b el es er) more
+            (word-queued coded kinds lengths bytes t remaining q batch left
+            (g .came coded kinds lengths bytes readings t remaining batch u b el es er) more
             (omega (arith, g .counted, g .room, more)));
         queue-left = omega (arith, g .queue-left, g .enough, more);
         enough = omega (arith, g .enough);
@@ -112,6 +112,6 @@ module _ {queue words len : ℕ} {send-stop restart : Bool} {l₀ : List ℕ} {e
       let eq : queue - words ≡ q = omega (arith, g .queue-left, z) in
       let ee : e₀ + words ≡ e = omega (arith, g .counted, z) in
       record {
-        reaches = λ kinds lengths bytes readings t remaining batch u b el es er. rw (eq, ee)
-            (rw z at (g .came kinds lengths bytes readings t remaining batch u b el es er));
+        reaches = λ coded kinds lengths bytes readings t remaining batch u b el es er. rw (eq, ee)
+            (rw z at (g .came coded kinds lengths bytes readings t remaining batch u b el es er));
       }

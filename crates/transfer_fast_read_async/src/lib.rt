@@ -60,7 +60,7 @@ fn fetch_bytes(
     requires { ⌜ (0 < n)
         × (0 < remaining)
         × (remaining + n ≤ len)
-        × (at + len ≤ length (now buffer))
+        × (at + len ≤ length (now buffer) + 1)
         × (used + n ≤ length (now readings))
         × (entries + n ≤ length (now log) / 2) ⌝ }
     ensures { λ _. ⌜ Fetched len at (now (readings .entry)) remaining n entries used (now (log .entry))
@@ -156,7 +156,7 @@ fn one_round(
         (p .count)
         × (0 < p .words)
         × (remaining ≤ len)
-        × (at + len ≤ length (now buffer)) ⌝ }
+        × (at + len ≤ length (now buffer) + 1) ⌝ }
     ensures { λ _. ⌜ ForAny
         (λ (batch : ℕ). Rounds len at «send_stop» restart (now (readings .entry))
         (round remaining queue batch) entries used (now (log .entry)) (now (buffer .entry))
@@ -206,7 +206,7 @@ fn run(
     buffer: &mut [u8],
 ) -> Came
     requires { ⌜ (remaining ≤ len)
-        × (at + len ≤ length (now buffer))
+        × (at + len ≤ length (now buffer) + 1)
         × (used ≤ length (now readings))
         × (entries ≤ length (now log) / 2) ⌝ }
     ensures { λ r. ⌜ Rounds len at «send_stop» restart (now (readings .entry)) (round remaining queue batch)

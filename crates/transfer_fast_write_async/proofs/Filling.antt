@@ -27,29 +27,29 @@ use Rattle.regs_runs.proofs.Reach.{did-write}
 use Rattle.transfer_fast_write_async.specs.inner.Fills.{Polls}
 
 -- where a step leads does not depend on the point that it is made from
-pub from-any-point : (kinds lengths : List ℕ) (t : Transfer) (p : Point) (s : Step)
-    → moved-to kinds lengths (with-point t p) s ≡ moved-to kinds lengths t s
+pub from-any-point : (coded : Bool) (kinds lengths : List ℕ) (t : Transfer) (p : Point) (s : Step)
+    → moved-to coded kinds lengths (with-point t p) s ≡ moved-to coded kinds lengths t s
 unfolding begun opened opened-read opened-write
-from-any-point kinds lengths t p (Go q) = refl
-from-any-point kinds lengths t p Done = refl
+from-any-point coded kinds lengths t p (Go q) = refl
+from-any-point coded kinds lengths t p Done = refl
 
-module _ (kinds lengths bytes : List ℕ) {readings : List ℕ} (t : Transfer) {s₀ : Transfer} {e₀ u₀ : ℕ} {l₀ b₀ : List ℕ} (i left : ℕ)
+module _ (coded : Bool) (kinds lengths bytes : List ℕ) {readings : List ℕ} (t : Transfer) {s₀ : Transfer} {e₀ u₀ : ℕ} {l₀ b₀ : List ℕ} (i left : ℕ)
     {e u : ℕ} {l b : List ℕ} where
   -- a byte and a place for it: the word is written
-  word-written : Reaches (machine kinds lengths bytes) readings s₀ e₀ u₀ l₀ b₀
-      (moved-to kinds lengths t (filling (t .len) (t .«send_stop») i left)) e u l b
+  word-written : Reaches (machine coded kinds lengths bytes) readings s₀ e₀ u₀ l₀ b₀
+      (moved-to coded kinds lengths t (filling (t .len) (t .«send_stop») i left)) e u l b
       → 0 < left → i < t .len → e < length l₀ / 2
-      → Reaches (machine kinds lengths bytes) readings s₀ e₀ u₀ l₀ b₀
-      (moved-to kinds lengths t (filling (t .len) (t .«send_stop») (i + 1) (left - 1))) (e + 1) u
+      → Reaches (machine coded kinds lengths bytes) readings s₀ e₀ u₀ l₀ b₀
+      (moved-to coded kinds lengths t (filling (t .len) (t .«send_stop») (i + 1) (left - 1))) (e + 1) u
       (entered l e (0x200 + DATA-CMD) (fill-word (getD bytes (t .at + i) 0) i (t .len) (t .«send_stop»))) b
   unfolding next-at next-fill store-at step-of step-fill filling after-index
   word-written g some before room =
       let p : Point = WriteAsync (Fill i left) in
-      let at : Reaches (machine kinds lengths bytes) readings s₀ e₀ u₀ l₀ b₀ (with-point t p) e u l b =
+      let at : Reaches (machine coded kinds lengths bytes) readings s₀ e₀ u₀ l₀ b₀ (with-point t p) e u l b =
       rw (ne-eqb left 0 (λ (z : left ≡ 0). omega (arith, some, z)), lt-ltb i (t .len) before) at g in
-      let next : machine kinds lengths bytes .advance (with-point t p) 0 ≡ moved-to kinds lengths t
+      let next : machine coded kinds lengths bytes .advance (with-point t p) 0 ≡ moved-to coded kinds lengths t
       (filling (t .len) (t .«send_stop») (i + 1) (left - 1)) =
-      rw (lt-ltb i (t .len) before) (from-any-point kinds lengths t p (filling (t .len) (t .«send_stop») (i + 1) (left - 1))) in
+      rw (lt-ltb i (t .len) before) (from-any-point coded kinds lengths t p (filling (t .len) (t .«send_stop») (i + 1) (left - 1))) in
       did-write at {r = DATA-CMD} {x = fill-word (getD bytes (t .at + i) 0) i (t .len) (t .«send_stop»)} refl room next refl
 
 -- no place is left: TX_ABRT_SOURCE is next
@@ -77,14 +77,14 @@ and-true false = refl
 -- the inner loop's head: j of the places are filled
 pub record Filling (len at : ℕ) (send-stop : Bool) (bytes readings : List ℕ) (u from space e₀ : ℕ) (l₀ : List ℕ) (i e : ℕ) (l : List ℕ)
     (j : ℕ) : Type 0 where
-  pub came : (kinds lengths : List ℕ) (t : Transfer) (b : List ℕ) → t .len ≡ len → t .at ≡ at → t .«send_stop» ≡ send-stop
-      → Reaches (machine kinds lengths bytes) readings (moved-to kinds lengths t (filling (t .len) (t .«send_stop») from space)) e₀ u l₀ b
-      (moved-to kinds lengths t (filling (t .len) (t .«send_stop») i (space - j))) e u l b
+  pub came : (coded : Bool) (kinds lengths : List ℕ) (t : Transfer) (b : List ℕ) → t .len ≡ len → t .at ≡ at → t .«send_stop» ≡ send-stop
+      → Reaches (machine coded kinds lengths bytes) readings (moved-to coded kinds lengths t (filling (t .len) (t .«send_stop») from space)) e₀ u l₀ b
+      (moved-to coded kinds lengths t (filling (t .len) (t .«send_stop») i (space - j))) e u l b
   pub passed : i ≡ from + j
   pub counted : e ≡ e₀ + j
   pub within : i ≤ len
   pub placed : j ≤ space
-  pub held : at + len ≤ length bytes
+  pub held : at + len ≤ length bytes + 1
   pub long : length l ≡ length l₀
   -- the log has room for each word
   pub room : (k : ℕ) → k < space → from + k < len → e₀ + k < length l₀ / 2
@@ -102,6 +102,14 @@ module _ {len at : ℕ} {send-stop : Bool} {bytes readings : List ℕ} {u from s
   pub more-bytes : (last : Bool) → last ≡ leb len (from + space) → j < space → (last ≡ true → i ≡ len → ⊥) → i < len
   more-bytes true is more going = omega (arith, g .within, going refl)
   more-bytes false is more going = omega (arith, g .passed, more, leb-false len (from + space) (sym is))
+
+  -- the byte is in the slice or just past it, and in it before the last round
+  pub has-place : (last : Bool) → last ≡ leb len (from + space) → j < space → i < len
+      → (at + i ≤ length bytes) × (last ≡ false → at + i < length bytes)
+  has-place last is more before = (
+    omega (arith, g .held, before),
+    λ other. omega (arith, g .held, g .passed, more, leb-false len (from + space) (sym is ∙ other)),
+  )
 
   -- STOP is asked for in the last round alone: before it no byte is the last one
   pub same-word : (last : Bool) → last ≡ leb len (from + space) → j < space → (byte : ℕ)
@@ -123,10 +131,10 @@ module _ {len at : ℕ} {send-stop : Bool} {bytes readings : List ℕ} {u from s
   one-filled more before {w} ew el′ =
       let fewer : space - (j + 1) ≡ space - j - 1 = omega arith in
       record {
-        came = λ kinds lengths t b el ea es.
+        came = λ coded kinds lengths t b el ea es.
             let is : w ≡ fill-word (getD bytes (t .at + i) 0) i (t .len) (t .«send_stop») = rw (el, ea, es) ew in
             rw (el′, is, fewer)
-            (word-written kinds lengths bytes t i (space - j) (g .came kinds lengths t b el ea es) (omega (arith, more)) (rw el before)
+            (word-written coded kinds lengths bytes t i (space - j) (g .came coded kinds lengths t b el ea es) (omega (arith, more)) (rw el before)
             (word-fits more before));
         passed = omega (arith, g .passed);
         counted = omega (arith, g .counted);

@@ -27,39 +27,39 @@ use Rattle.regs_runs.proofs.Reach.{stays, then, did-read}
 use Rattle.transfer_fast_write_async.specs.inner.Fills.{Polls, StraightFill, Fills}
 use Rattle.transfer_fast_write_async.proofs.Filling.{Filling, from-any-point, no-place, no-byte, polls-next}
 
-module _ (kinds lengths bytes : List ℕ) {readings : List ℕ} (t : Transfer) {s₀ : Transfer} {e₀ u₀ : ℕ} {l₀ b₀ : List ℕ} (i : ℕ) {e u : ℕ}
+module _ (coded : Bool) (kinds lengths bytes : List ℕ) {readings : List ℕ} (t : Transfer) {s₀ : Transfer} {e₀ u₀ : ℕ} {l₀ b₀ : List ℕ} (i : ℕ) {e u : ℕ}
     {l b : List ℕ} where
   -- TXFLR
-  counted : (space : ℕ) → Reaches (machine kinds lengths bytes) readings s₀ e₀ u₀ l₀ b₀ (with-point t (WriteAsync (Free i))) e u l b
+  counted : (space : ℕ) → Reaches (machine coded kinds lengths bytes) readings s₀ e₀ u₀ l₀ b₀ (with-point t (WriteAsync (Free i))) e u l b
       → 0 < space
       → space ≡ 16 - level (getD readings u 0) → e < length l₀ / 2 → u < length readings
-      → Reaches (machine kinds lengths bytes) readings s₀ e₀ u₀ l₀ b₀
-      (moved-to kinds lengths t (filling (t .len) (t .«send_stop») i space)) (e + 1) (u + 1)
+      → Reaches (machine coded kinds lengths bytes) readings s₀ e₀ u₀ l₀ b₀
+      (moved-to coded kinds lengths t (filling (t .len) (t .«send_stop») i space)) (e + 1) (u + 1)
       (entered l e (0x100 + TXFLR) (getD readings u 0)) b
   unfolding next-at next-fill store-at step-of step-fill free-step places
   counted space g some is room left =
       let n = level (getD readings u 0) in
       let p = WriteAsync (Free i) in
-      let a : machine kinds lengths bytes .advance (with-point t p) (getD readings u 0) ≡ moved-to kinds lengths t
+      let a : machine coded kinds lengths bytes .advance (with-point t p) (getD readings u 0) ≡ moved-to coded kinds lengths t
       (filling (t .len) (t .«send_stop») i space) =
-      rw (le-ltb 16 n (omega (arith, some, is)), ← is) (from-any-point kinds lengths t p (filling (t .len) (t .«send_stop») i space)) in
+      rw (le-ltb 16 n (omega (arith, some, is)), ← is) (from-any-point coded kinds lengths t p (filling (t .len) (t .«send_stop») i space)) in
       did-read g refl room left a refl refl
 
   -- TX_ABRT_SOURCE and TXFLR
-  polled : Reaches (machine kinds lengths bytes) readings s₀ e₀ u₀ l₀ b₀ (with-point t (Abort Source (Space i))) e u l b
+  polled : Reaches (machine coded kinds lengths bytes) readings s₀ e₀ u₀ l₀ b₀ (with-point t (Abort Source (Space i))) e u l b
       → Polls readings u → e + 2 ≤ length l₀ / 2
-      → Reaches (machine kinds lengths bytes) readings s₀ e₀ u₀ l₀ b₀ (with-point t (WriteAsync (Free i))) (e + 2) (u + 2)
+      → Reaches (machine coded kinds lengths bytes) readings s₀ e₀ u₀ l₀ b₀ (with-point t (WriteAsync (Free i))) (e + 2) (u + 2)
       (entered (entered l e (0x100 + TX-ABRT-SOURCE) (getD readings u 0)) (e + 1) (0x100 + TXFLR) (getD readings (u + 1) 0)) b
   unfolding next-at next-fill next-abort store-at step-of step-fill step-abort full-step places returned
   polled g s room =
-      let a₁ : machine kinds lengths bytes .advance (with-point t (Abort Source (Space i))) (getD readings u 0) ≡ with-point t
+      let a₁ : machine coded kinds lengths bytes .advance (with-point t (Abort Source (Space i))) (getD readings u 0) ≡ with-point t
       (WriteAsync (Full i)) =
       rw (eq-eqb (getD readings u 0) 0 (s .quiet)) in
       let g₁ = did-read g refl (omega (arith, room)) (omega (arith, s .left)) a₁ refl refl in
       let n = level (getD readings (u + 1) 0) in
       let q : e + 2 ≡ e + 1 + 1 = omega arith in
       let v : u + 2 ≡ u + 1 + 1 = omega arith in
-      let a₂ : machine kinds lengths bytes .advance (with-point t (WriteAsync (Full i))) (getD readings (u + 1) 0) ≡ with-point t
+      let a₂ : machine coded kinds lengths bytes .advance (with-point t (WriteAsync (Full i))) (getD readings (u + 1) 0) ≡ with-point t
       (WriteAsync (Free i)) =
       rw (le-ltb 16 n (omega (arith, s .again)), ne-eqb (16 - n) 0 (λ (z : 16 - n ≡ 0). omega (arith, s .again, z))) in
       did-read g₁ refl (omega (arith, room)) (omega (arith, s .left)) a₂ q v
@@ -77,19 +77,19 @@ pub record Came (from len at : ℕ) (send-stop : Bool) (bytes readings : List �
     (i u k : ℕ) : Type 0 where
   pub fills : Fills len at send-stop bytes readings from entries used l₀ (Go (WriteAsync (Free i))) k u l
   pub within : i ≤ len
-  pub held : at + len ≤ length bytes
+  pub held : at + len ≤ length bytes + 1
   pub left : u ≤ length readings
   pub room : k ≤ length l₀ / 2
   pub long : length l ≡ length l₀
   pub fits : (length l₀ < 2 ^ 64) × (length readings < 2 ^ 64) × (length bytes < 2 ^ 64) × (len < 2 ^ 16)
 
 module _ {from len at : ℕ} {send-stop : Bool} {bytes readings : List ℕ} {used : ℕ} {l₀ : List ℕ} {entries : ℕ} where
-  pub no-round : from ≤ len → at + len ≤ length bytes → used ≤ length readings → entries ≤ length l₀ / 2 → length l₀ < 2 ^ 64
+  pub no-round : from ≤ len → at + len ≤ length bytes + 1 → used ≤ length readings → entries ≤ length l₀ / 2 → length l₀ < 2 ^ 64
       → length readings < 2 ^ 64 → length bytes < 2 ^ 64 → len < 2 ^ 16
       → Came from len at send-stop bytes readings used l₀ entries l₀ from used entries
   no-round within held left room fits fits-readings fits-bytes fits-len =
       record {
-        fills = record { reaches = λ kinds lengths t b el ea es. stays (machine kinds lengths bytes) readings room fits };
+        fills = record { reaches = λ coded kinds lengths t b el ea es. stays (machine coded kinds lengths bytes) readings room fits };
         within = within;
         held = held;
         left = left;
@@ -110,7 +110,7 @@ module _ {from len at : ℕ} {send-stop : Bool} {bytes readings : List ℕ} {use
         let fits : length l₁ < 2 ^ 64 = omega (arith, same, g .fits .0) in
         let all : n - 0 ≡ n = omega arith in
         record {
-          came = λ kinds lengths t b el ea es. rw all (stays (machine kinds lengths bytes) readings (omega (arith, level-fits, same)) fits);
+          came = λ coded kinds lengths t b el ea es. rw all (stays (machine coded kinds lengths bytes) readings (omega (arith, level-fits, same)) fits);
           passed = omega arith;
           counted = omega arith;
           within = g .within;
@@ -125,23 +125,23 @@ module _ {from len at : ℕ} {send-stop : Bool} {bytes readings : List ℕ} {use
     -- a round up to a place: TXFLR is read, and places are filled
     module _ (some : 0 < n) {l₁ l₂ : List ℕ} {i₂ k₂ j : ℕ} (e₁ : l₁ ≡ entered l k (0x100 + TXFLR) (getD readings u 0))
         (f : Filling len at send-stop bytes readings (u + 1) i n (k + 1) l₁ i₂ k₂ l₂ j) where
-      up-to : (kinds lengths : List ℕ) (t : Transfer) (b : List ℕ) → t .len ≡ len → t .at ≡ at → t .«send_stop» ≡ send-stop
-          → Reaches (machine kinds lengths bytes) readings (with-point t (WriteAsync (Free from))) entries used l₀ b
-          (moved-to kinds lengths t (filling (t .len) (t .«send_stop») i₂ (n - j))) k₂ (u + 1) l₂ b
-      up-to kinds lengths t b el ea es =
-          let g₁ = counted kinds lengths bytes t i n (g .fills .reaches kinds lengths t b el ea es) some (s .space-is) level-fits
+      up-to : (coded : Bool) (kinds lengths : List ℕ) (t : Transfer) (b : List ℕ) → t .len ≡ len → t .at ≡ at → t .«send_stop» ≡ send-stop
+          → Reaches (machine coded kinds lengths bytes) readings (with-point t (WriteAsync (Free from))) entries used l₀ b
+          (moved-to coded kinds lengths t (filling (t .len) (t .«send_stop») i₂ (n - j))) k₂ (u + 1) l₂ b
+      up-to coded kinds lengths t b el ea es =
+          let g₁ = counted coded kinds lengths bytes t i n (g .fills .reaches coded kinds lengths t b el ea es) some (s .space-is) level-fits
           (omega (arith, s .left)) in
-          then (rw (← e₁) at g₁) (f .came kinds lengths t b el ea es)
+          then (rw (← e₁) at g₁) (f .came coded kinds lengths t b el ea es)
 
       -- the bytes have ended, and a place is left
       pub last-round : {x : Step} → j < n → i₂ ≡ len → x ≡ wait-stop send-stop Fine
           → Fills len at send-stop bytes readings from entries used l₀ x k₂ (u + 1) l₂
       last-round {x} more ended ex =
           record {
-            reaches = λ kinds lengths t b el ea es.
+            reaches = λ coded kinds lengths t b el ea es.
                 let is : filling (t .len) (t .«send_stop») i₂ (n - j) ≡ x =
                 rw ex (rw es (no-byte (t .len) send-stop i₂ (n - j) (rw el ended) (omega (arith, more)))) in
-                rw is at (up-to kinds lengths t b el ea es);
+                rw is at (up-to coded kinds lengths t b el ea es);
           }
 
       -- every place is filled
@@ -154,9 +154,9 @@ module _ {from len at : ℕ} {send-stop : Bool} {bytes readings : List ℕ} {use
           let room : k₂ + 2 ≤ length l₀ / 2 = omega (arith, p .1, same, g .long) in
           record {
             fills = record {
-              reaches = λ kinds lengths t b el ea es.
-                  rw (e₄, e₃) (polled kinds lengths bytes t i₂
-                  (rw (none, no-place (t .len) (t .«send_stop») i₂) at (up-to kinds lengths t b el ea es)) (p .0) room);
+              reaches = λ coded kinds lengths t b el ea es.
+                  rw (e₄, e₃) (polled coded kinds lengths bytes t i₂
+                  (rw (none, no-place (t .len) (t .«send_stop») i₂) at (up-to coded kinds lengths t b el ea es)) (p .0) room);
             };
             within = f .within;
             held = g .held;

@@ -17,6 +17,7 @@ ghost use mathlib.Core.Path.{_≡_};
 ghost use Prim.Native.Nat.{_+_, _/_, _<_, _≤_};
 ghost use lib.Dec.{leb};
 ghost use lib.ListN.{length};
+ghost use Rattle.transfer.specs.inner.Machine.{byte-at};
 ghost use Rattle.transfer_fast_write_async.specs.inner.Fills.{Polls, StraightFill, Fills};
 
 // Whether a round that fills all its places is followed by another: the first
@@ -82,6 +83,21 @@ fn has_ended(last: bool, i: u16, len: u16) -> bool
     false
 }
 
+// The byte of a place. The last one of a coded transfer is past the
+// lent slice, and 0 is sent for it; only a last round can come there.
+fn byte_at(last: bool, bytes: &[u8], at: usize, i: u16) -> u8
+    requires { ⌜ (at + i ≤ length (now bytes))
+        × (last ≡ false → at + i < length (now bytes)) ⌝ }
+    ensures { λ r. ⌜ r ≡ byte-at (now (bytes .entry)) at i ⌝ }
+{
+    let k = at + i as usize;
+    if last & (k == bytes.len()) {
+        0
+    } else {
+        bytes[k]
+    }
+}
+
 // How far a burst came: where it leads, the readings used and the entries in the log.
 pub struct Came {
     pub step: Step,
@@ -103,7 +119,7 @@ fn run(
     entries: usize,
 ) -> Came
     requires { ⌜ (from ≤ len)
-        × (at + len ≤ length (now bytes))
+        × (at + len ≤ length (now bytes) + 1)
         × (used ≤ length (now readings))
         × (entries ≤ length (now log) / 2) ⌝ }
     ensures { λ r. ⌜ Fills len at «send_stop» (now (bytes .entry)) (now (readings .entry)) from entries used
@@ -130,7 +146,7 @@ fn run(
             if has_ended(last, i, len) {
                 break 'xmit;
             }
-            let w = word_of_fill(bytes[at + i as usize], i, len, send_stop & last);
+            let w = word_of_fill(byte_at(last, bytes, at, i), i, len, send_stop & last);
             put_write(log, k, regs::DATA_CMD, w);
             i += 1;
             k += 1;

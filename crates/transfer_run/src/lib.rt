@@ -19,6 +19,7 @@ pub enum Stepped {
 // What goes ahead in one loop from here, and one access.
 fn step(
     t: Transfer,
+    coded: bool,
     kinds: &[u8],
     lengths: &[u16],
     bytes: &[u8],
@@ -29,7 +30,7 @@ fn step(
     buffer: &mut [u8],
 ) -> Stepped
     requires { ⌜ entries ≤ length (now log) / 2 ⌝ }
-    ensures { λ r. ⌜ Steps (now (kinds .entry)) (now (lengths .entry)) (now (bytes .entry))
+    ensures { λ r. ⌜ Steps coded (now (kinds .entry)) (now (lengths .entry)) (now (bytes .entry))
         (now (readings .entry)) (now (log .entry)) (now (buffer .entry)) (now (log .exit))
         (now (buffer .exit)) t used entries r ⌝ }
 {
@@ -37,7 +38,7 @@ fn step(
     let u = a.used;
     let k = a.entries;
     let to = a.step;
-    let s = transfer_steps::moved(t, to, kinds, lengths);
+    let s = transfer_steps::moved(t, to, coded, kinds, lengths);
     let n = transfer_access::next_access(s, bytes);
     match regs::access::perform(n, readings, u, log, k) {
         Performed::Stopped(r) => Stepped::Stopped(Ran {
@@ -47,7 +48,11 @@ fn step(
         }),
         Performed::Did(v, w) => {
             regs::access::keep(buffer, transfer_access::store(s, v));
-            Stepped::On(transfer_steps::advance(s, v, kinds, lengths), w, k + 1)
+            Stepped::On(
+                transfer_steps::advance(s, v, coded, kinds, lengths),
+                w,
+                k + 1,
+            )
         }
     }
 }
@@ -55,6 +60,7 @@ fn step(
 // The steps from a transfer to its end.
 pub fn drive(
     from: Transfer,
+    coded: bool,
     kinds: &[u8],
     lengths: &[u16],
     bytes: &[u8],
@@ -64,7 +70,7 @@ pub fn drive(
 ) -> Ran
     ensures { λ r. ⌜ final (r .reply) (r .entries) (r .used) (now (log .exit)) (now (buffer .exit)) tt
         ≡ ran
-        (machine (now (kinds .entry)) (now (lengths .entry)) (now (bytes .entry)))
+        (machine coded (now (kinds .entry)) (now (lengths .entry)) (now (bytes .entry)))
         (now (readings .entry)) (length (now (log .entry)) / 2) from 0 0 (now (log .entry))
         (now (buffer .entry)) ⌝ }
 {
@@ -74,6 +80,7 @@ pub fn drive(
     loop {
         match step(
             t,
+            coded,
             kinds,
             lengths,
             bytes,

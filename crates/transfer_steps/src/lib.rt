@@ -18,7 +18,7 @@ ghost use mathlib.Core.Path.{_≡_};
 ghost use lib.ListN.{getD};
 ghost use Rattle.transfer.specs.inner.Points.{with-point};
 ghost use Rattle.transfer.specs.inner.Machine.{write-point, read-point, opened-write, opened-read, opened};
-ghost use Rattle.transfer.specs.inner.Machine.{begun};
+ghost use Rattle.transfer.specs.inner.Machine.{longer-length, length-for, begun};
 ghost use Rattle.transfer.specs.inner.Machine.{moved-to, advance-of, tested-point, first-point, started};
 
 fn kind_at(kinds: &[u8], k: usize) -> u8
@@ -33,8 +33,9 @@ fn length_at(lengths: &[u16], k: usize) -> u16
     if k < lengths.len() { lengths[k] } else { 0 }
 }
 
-fn first_of_write(mode: Mode, len: u16) -> Point
-    ensures { λ r. ⌜ r ≡ write-point mode len ⌝ }
+// Where a packet error code goes with the transfer, an empty write is refused in both modes.
+fn first_of_write(mode: Mode, coded: bool, len: u16) -> Point
+    ensures { λ r. ⌜ r ≡ write-point coded mode len ⌝ }
 {
     match mode {
         Mode::Blocking => {
@@ -44,7 +45,13 @@ fn first_of_write(mode: Mode, len: u16) -> Point
                 Point::WriteBlocking(WritePoint::Send(0))
             }
         }
-        Mode::Async => Point::WriteAsync(FillPoint::Free(0)),
+        Mode::Async => {
+            if coded & (len == 0) {
+                Point::Finished(Answer::Refused(Refusal::InvalidWriteBufferLength))
+            } else {
+                Point::WriteAsync(FillPoint::Free(0))
+            }
+        }
     }
 }
 
@@ -64,13 +71,13 @@ fn first_of_read(mode: Mode, len: u16) -> Point
     }
 }
 
-fn open_write(t: Transfer, n: usize, len: u16, last: bool) -> Transfer
-    ensures { λ r. ⌜ r ≡ opened-write t n len last ⌝ }
+fn open_write(t: Transfer, coded: bool, n: usize, len: u16, last: bool) -> Transfer
+    ensures { λ r. ⌜ r ≡ opened-write coded t n len last ⌝ }
 {
     let mode = t.mode;
     let start = t.writes;
     Transfer {
-        point: first_of_write(mode, len),
+        point: first_of_write(mode, coded, len),
         mode,
         restart: t.restart,
         send_stop: last,
@@ -102,11 +109,11 @@ fn open_read(t: Transfer, n: usize, len: u16, last: bool) -> Transfer
     }
 }
 
-fn open(t: Transfer, n: usize, kind: u8, len: u16, last: bool) -> Transfer
-    ensures { λ r. ⌜ r ≡ opened t n kind len last ⌝ }
+fn open(t: Transfer, coded: bool, n: usize, kind: u8, len: u16, last: bool) -> Transfer
+    ensures { λ r. ⌜ r ≡ opened coded t n kind len last ⌝ }
 {
     if kind == 1 {
-        open_write(t, n, len, last)
+        open_write(t, coded, n, len, last)
     } else {
         open_read(t, n, len, last)
     }
@@ -130,37 +137,57 @@ fn at_point(t: Transfer, p: Point) -> Transfer
     }
 }
 
+// With a byte more for the code. 0 stays 0 and is refused when it is reached; 65,535 stays, since a
+// length has 16 bits (the limits keep it far below).
+fn one_longer(len: u16) -> u16
+    ensures { λ r. ⌜ r ≡ longer-length len ⌝ }
+{
+    if len == 0 {
+        return len;
+    }
+    if len < 65535 { len + 1 } else { len }
+}
+
+// The last operation has a place for the packet error code.
+fn length_for_code(coded: bool, last: bool, len: u16) -> u16
+    ensures { λ r. ⌜ r ≡ length-for coded last len ⌝ }
+{
+    if coded & last { one_longer(len) } else { len }
+}
+
 // The next operation, or the end.
-fn begin(t: Transfer, kinds: &[u8], lengths: &[u16]) -> Transfer
-    ensures { λ r. ⌜ r ≡ begun (now (kinds .entry)) (now (lengths .entry)) t ⌝ }
+fn begin(t: Transfer, coded: bool, kinds: &[u8], lengths: &[u16]) -> Transfer
+    ensures { λ r. ⌜ r ≡ begun coded (now (kinds .entry)) (now (lengths .entry)) t ⌝ }
 {
     let k = t.begun;
     let all = kinds.len();
     if k < all {
         let n = k + 1;
-        open(t, n, kind_at(kinds, k), length_at(lengths, k), n == all)
+        let last = n == all;
+        let len = length_for_code(coded, last, length_at(lengths, k));
+        open(t, coded, n, kind_at(kinds, k), len, last)
     } else {
         at_point(t, Point::Finished(Answer::Accepted))
     }
 }
 
 // The point, or the next operation.
-pub fn moved(t: Transfer, s: Step, kinds: &[u8], lengths: &[u16]) -> Transfer
-    ensures { λ r. ⌜ r ≡ moved-to (now (kinds .entry)) (now (lengths .entry)) t s ⌝ }
+pub fn moved(t: Transfer, s: Step, coded: bool, kinds: &[u8], lengths: &[u16]) -> Transfer
+    ensures { λ r. ⌜ r ≡ moved-to coded (now (kinds .entry)) (now (lengths .entry)) t s ⌝ }
 {
     match s {
         Step::Go(p) => at_point(t, p),
-        Step::Done => begin(t, kinds, lengths),
+        Step::Done => begin(t, coded, kinds, lengths),
     }
 }
 
 // What the Rust does from an access, which read v, up to the next one.
-pub fn advance(t: Transfer, v: u32, kinds: &[u8], lengths: &[u16]) -> Transfer
-    ensures { λ r. ⌜ r ≡ advance-of (now (kinds .entry)) (now (lengths .entry)) t v ⌝ }
+pub fn advance(t: Transfer, v: u32, coded: bool, kinds: &[u8], lengths: &[u16]) -> Transfer
+    ensures { λ r. ⌜ r ≡ advance-of coded (now (kinds .entry)) (now (lengths .entry)) t v ⌝ }
 {
     let p = t.point;
     let s = step_of(t.len, t.send_stop, p, v);
-    moved(t, s, kinds, lengths)
+    moved(t, s, coded, kinds, lengths)
 }
 
 // The address is tested, then the block is disabled.

@@ -45,6 +45,7 @@ number-kept (Refused (X.PartialGeneralCall n)) = refl
 number-kept (Refused X.SlaveAddressZero) = refl
 number-kept (Refused X.NoPlaceForPending) = refl
 number-kept (Refused X.OverLimits) = refl
+number-kept (Refused X.WrongPacketErrorCode) = refl
 
 mode-kept : (m : Mode) (b : Bool) → mode-at (eqb (form-of m b % 2) 1) ≡ m
 unfolding mode-at form-of

@@ -1,5 +1,6 @@
 -- What a caller of the steps holds of a transfer.
 use Prim.Native.Nat.{ℕ}
+use mathlib.Core.Bool.{Bool}
 use mathlib.Core.List.{List}
 use Rattle.regs.specs.Answers.{number, detail}
 use Rattle.regs.specs.declared.answers.Reply.the-variants.{Answered}
@@ -30,10 +31,10 @@ held-in t (Finished a) = Over (number (Answered a)) (detail (Answered a))
 abbrev pub held-of : Transfer → Held
 held-of t = held-in t (t .point)
 
--- after an access that read v: the operations are listed by kinds and lengths
-abbrev pub advanced-held : List ℕ → List ℕ → Held → ℕ → Held
-advanced-held kinds lengths (Live t) v = held-of (advance-of kinds lengths t v)
-advanced-held kinds lengths (Over n d) v = Over n d
+-- after an access that read v: the operations are listed by kinds and lengths, with a packet error code where `coded`
+abbrev pub advanced-held : Bool → List ℕ → List ℕ → Held → ℕ → Held
+advanced-held coded kinds lengths (Live t) v = held-of (advance-of coded kinds lengths t v)
+advanced-held coded kinds lengths (Over n d) v = Over n d
 
 -- what that access puts into the read buffer
 abbrev pub store-held : Held → ℕ → Store

@@ -1,7 +1,7 @@
 -- A step that was made, and one that was not.
 use Prim.Native.Nat.{ℕ, _-_, _<_, _≤_, _/_, _%_}
 use mathlib.Core.Path.{_≡_, refl}
-use mathlib.Core.Bool.{false}
+use mathlib.Core.Bool.{Bool, false}
 use mathlib.Core.List.{List}
 use native.Mathlib.Nat.{mod-eq-of-lt}
 use native.Mathlib.Omega.{arith}
@@ -15,7 +15,7 @@ use Rattle.words_steps.specs.inner.InPlace.{InPlace}
 
 -- words e stand for where an access that read v leads from words s
 abbrev pub Leads : List ℕ → ℕ → List ℕ → Type 0
-Leads s v e = (kinds lengths : List ℕ) → held-at e ≡ advanced-held kinds lengths (held-at s) v
+Leads s v e = (coded : Bool) (kinds lengths : List ℕ) → held-at e ≡ advanced-held coded kinds lengths (held-at s) v
 
 -- so they do from a row of a group, where H holds, and the code tells where
 abbrev pub Law : ℕ → ℕ → ℕ → ℕ → (List ℕ → Type 0) → (List ℕ → List ℕ) → List ℕ → Type 0
@@ -37,7 +37,7 @@ made {s} {v} {code} {e} some group l =
     record { same = λ h. cc; moved = λ _. l .0; live = λ _. live-at e (code / 8) (l .1) group; group = λ _. l .1; row = λ _. l .2 }
 
 pub not-made : {s : List ℕ} {v : ℕ} → InPlace s v 0 s
-not-made = record { same = λ _. refl; moved = λ h kinds lengths. cc; live = λ h. cc; group = λ h. cc; row = λ h. cc }
+not-made = record { same = λ _. refl; moved = λ h coded kinds lengths. cc; live = λ h. cc; group = λ h. cc; row = λ h. cc }
 
 -- a number of 16 bits is kept by a word
 pub small : (n m : ℕ) → n ≤ half-of m → half-of n ≡ n

@@ -28,7 +28,7 @@ module _ (v : ℕ) where
 
   pub to-level : (s : List ℕ) → length s ≡ 20 → Law 1 0 18 v to-level-if to-level-to s
   unfolding held-at transfer-in place-in point-at step-of held-in who-in abort-at caller-at step-abort returned read-at
-  to-level = each (Law 1 0 18 v to-level-if to-level-to) (λ a g r h. ((λ kinds lengths. simp (g, r, h .0, h .1)), refl, refl))
+  to-level = each (Law 1 0 18 v to-level-if to-level-to) (λ a g r h. ((λ coded kinds lengths. simp (g, r, h .0, h .1)), refl, refl))
 
   -- to the next byte of a blocking write, where one follows
   abbrev to-send-if : List ℕ → Type 0
@@ -40,7 +40,7 @@ module _ (v : ℕ) where
   pub to-send : (s : List ℕ) → length s ≡ 20 → Law 1 0 24 v to-send-if to-send-to s
   unfolding held-at transfer-in place-in point-at step-of held-in who-in abort-at caller-at step-abort returned closes write-at
   to-send = each (Law 1 0 24 v to-send-if to-send-to) (λ a g r h. (
-    (λ kinds lengths.
+    (λ coded kinds lengths.
         let i : ℕ = a .w4 % 2 ^ 16 in
         let n : ℕ = a .w15 % 2 ^ 16 in
         let m : i + 1 < n = h .2 in
@@ -74,7 +74,7 @@ module _ (v : ℕ) where
   pub to-fetch : (s : List ℕ) → length s ≡ 20 → Law 1 0 35 v to-fetch-if to-fetch-to s
   unfolding held-at transfer-in place-in point-at step-of held-in who-in abort-at caller-at round-at step-abort returned fetching queue-at
   to-fetch = each (Law 1 0 35 v to-fetch-if to-fetch-to) (λ a g r h. (
-    (λ kinds lengths.
+    (λ coded kinds lengths.
         let n : ℕ = a .w5 % 2 ^ 16 in
         let m : ℕ = a .w6 % 2 ^ 16 in
         simp (
@@ -101,4 +101,4 @@ module _ (v : ℕ) where
 
   pub to-full : (s : List ℕ) → length s ≡ 20 → Law 1 0 42 v to-full-if to-full-to s
   unfolding held-at transfer-in place-in point-at step-of held-in who-in abort-at caller-at step-abort returned fill-at
-  to-full = each (Law 1 0 42 v to-full-if to-full-to) (λ a g r h. ((λ kinds lengths. simp (g, r, h .0, h .1)), refl, refl))
+  to-full = each (Law 1 0 42 v to-full-if to-full-to) (λ a g r h. ((λ coded kinds lengths. simp (g, r, h .0, h .1)), refl, refl))

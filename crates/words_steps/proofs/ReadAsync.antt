@@ -25,7 +25,7 @@ module _ (v : ℕ) where
   pub no-words : (s : List ℕ) → length s ≡ 20 → Law 4 0 34 v no-words-if no-words-to s
   unfolding held-at transfer-in place-in point-at step-of held-in who-in round-at queue-at step-round batch-step places queued
   no-words = each (Law 4 0 34 v no-words-if no-words-to)
-      (λ a g r h. ((λ kinds lengths. simp (g, r, le-ltb 16 (level v) (h .0), h .1)), g, refl))
+      (λ a g r h. ((λ coded kinds lengths. simp (g, r, le-ltb 16 (level v) (h .0), h .1)), g, refl))
 
   -- `Capacity` to `Queue`
   abbrev words-to-queue-if : List ℕ → Type 0
@@ -37,7 +37,7 @@ module _ (v : ℕ) where
   pub words-to-queue : (s : List ℕ) → length s ≡ 20 → Law 4 0 33 v words-to-queue-if words-to-queue-to s
   unfolding held-at transfer-in place-in point-at step-of held-in who-in round-at queue-at step-round batch-step places queued
   words-to-queue = each (Law 4 0 33 v words-to-queue-if words-to-queue-to) (λ a g r h. (
-    (λ kinds lengths.
+    (λ coded kinds lengths.
         let q : ℕ = a .w7 % 2 ^ 16 in
         let n : ℕ = min q (16 - level v) in
         simp (g, r, le-ltb 16 (level v) (h .0), ne-eqb n 0 (h .1), small n (a .w7) (min-le-left q (16 - level v)))),
@@ -55,7 +55,7 @@ module _ (v : ℕ) where
   pub last-queued : (s : List ℕ) → length s ≡ 20 → Law 4 1 34 v last-queued-if last-queued-to s
   unfolding held-at transfer-in place-in point-at step-of held-in who-in round-at queue-at step-round queued
   last-queued = each (Law 4 1 34 v last-queued-if last-queued-to) (λ a g r h. (
-    (λ kinds lengths.
+    (λ coded kinds lengths.
         let q : ℕ = a .w7 % 2 ^ 16 in
         simp (g, r, h, small (q - 1) (a .w7) (omega arith))),
     g,
@@ -72,7 +72,7 @@ module _ (v : ℕ) where
   pub word-queued : (s : List ℕ) → length s ≡ 20 → Law 4 1 33 v word-queued-if word-queued-to s
   unfolding held-at transfer-in place-in point-at step-of held-in who-in round-at queue-at step-round queued
   word-queued = each (Law 4 1 33 v word-queued-if word-queued-to) (λ a g r h. (
-    (λ kinds lengths.
+    (λ coded kinds lengths.
         let q : ℕ = a .w7 % 2 ^ 16 in
         let n : ℕ = a .w5 % 2 ^ 16 in
         simp (g, r, ne-eqb (n - 1) 0 h, small (q - 1) (a .w7) (omega arith), small (n - 1) (a .w5) (omega arith))),
@@ -91,7 +91,7 @@ module _ (v : ℕ) where
   unfolding held-at transfer-in place-in point-at step-of held-in who-in round-at queue-at step-round abort-at caller-at
   level-read = each (Law 4 2 8 v level-read-if level-read-to)
       (λ a g r h. (
-        (λ kinds lengths. simp (g, r, mod-eq-of-lt {n = level v} {m = 2 ^ 16} (omega arith))),
+        (λ coded kinds lengths. simp (g, r, mod-eq-of-lt {n = level v} {m = 2 ^ 16} (omega arith))),
         refl,
         refl,
       ))
@@ -106,7 +106,7 @@ module _ (v : ℕ) where
   pub byte-fetched : (s : List ℕ) → length s ≡ 20 → Law 4 3 35 v byte-fetched-if byte-fetched-to s
   unfolding held-at transfer-in place-in point-at step-of held-in who-in round-at queue-at step-round fetching
   byte-fetched = each (Law 4 3 35 v byte-fetched-if byte-fetched-to) (λ a g r h. (
-    (λ kinds lengths.
+    (λ coded kinds lengths.
         let n : ℕ = a .w5 % 2 ^ 16 in
         simp (g, r, ne-eqb (n - 1) 0 h, small (n - 1) (a .w5) (omega arith))),
     g,
@@ -123,4 +123,4 @@ module _ (v : ℕ) where
   pub last-fetched : (s : List ℕ) → length s ≡ 20 → Law 4 3 32 v last-fetched-if last-fetched-to s
   unfolding held-at transfer-in place-in point-at step-of held-in who-in round-at queue-at step-round fetching next-turn
   last-fetched = each (Law 4 3 32 v last-fetched-if last-fetched-to)
-      (λ a g r h. ((λ kinds lengths. simp (g, r, h .0, ne-eqb (a .w6 % 2 ^ 16) 0 (h .1))), g, refl))
+      (λ a g r h. ((λ coded kinds lengths. simp (g, r, h .0, ne-eqb (a .w6 % 2 ^ 16) 0 (h .1))), g, refl))

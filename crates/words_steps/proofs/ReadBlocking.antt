@@ -23,7 +23,7 @@ module _ (v : ℕ) where
 
   pub room : (s : List ℕ) → length s ≡ 20 → Law 2 0 17 v room-if room-to s
   unfolding held-at transfer-in place-in point-at step-of held-in who-in read-at step-read room-step places
-  room = each (Law 2 0 17 v room-if room-to) (λ a g r h. ((λ kinds lengths. simp (g, r, not-over v h, some-free v h)), g, refl))
+  room = each (Law 2 0 17 v room-if room-to) (λ a g r h. ((λ coded kinds lengths. simp (g, r, not-over v h, some-free v h)), g, refl))
 
   -- `Ask` to `Level`
   abbrev ask-if : List ℕ → Type 0
@@ -34,7 +34,7 @@ module _ (v : ℕ) where
 
   pub ask : (s : List ℕ) → length s ≡ 20 → Law 2 1 18 v ask-if ask-to s
   unfolding held-at transfer-in place-in point-at step-of held-in who-in read-at step-read
-  ask = each (Law 2 1 18 v ask-if ask-to) (λ a g r h. ((λ kinds lengths. simp (g, r)), g, refl))
+  ask = each (Law 2 1 18 v ask-if ask-to) (λ a g r h. ((λ coded kinds lengths. simp (g, r)), g, refl))
 
   -- `Level` to a look for an abort: no byte is there
   abbrev empty-if : List ℕ → Type 0
@@ -45,7 +45,7 @@ module _ (v : ℕ) where
 
   pub empty : (s : List ℕ) → length s ≡ 20 → Law 2 2 8 v empty-if empty-to s
   unfolding held-at transfer-in place-in point-at step-of held-in who-in read-at step-read level-step abort-at caller-at
-  empty = each (Law 2 2 8 v empty-if empty-to) (λ a g r h. ((λ kinds lengths. simp (g, r, eq-eqb _ _ h)), refl, refl))
+  empty = each (Law 2 2 8 v empty-if empty-to) (λ a g r h. ((λ coded kinds lengths. simp (g, r, eq-eqb _ _ h)), refl, refl))
 
   -- `Level` to `Take`: a byte is there
   abbrev level-read-if : List ℕ → Type 0
@@ -56,7 +56,7 @@ module _ (v : ℕ) where
 
   pub level-read : (s : List ℕ) → length s ≡ 20 → Law 2 2 19 v level-read-if level-read-to s
   unfolding held-at transfer-in place-in point-at step-of held-in who-in read-at step-read level-step
-  level-read = each (Law 2 2 19 v level-read-if level-read-to) (λ a g r h. ((λ kinds lengths. simp (g, r, ne-eqb _ _ h)), g, refl))
+  level-read = each (Law 2 2 19 v level-read-if level-read-to) (λ a g r h. ((λ coded kinds lengths. simp (g, r, ne-eqb _ _ h)), g, refl))
 
   -- `Take` to `Room` of the next byte, where one follows
   abbrev take-if : List ℕ → Type 0
@@ -68,7 +68,7 @@ module _ (v : ℕ) where
   pub take : (s : List ℕ) → length s ≡ 20 → Law 2 3 16 v take-if take-to s
   unfolding held-at transfer-in place-in point-at step-of held-in who-in read-at step-read
   take = each (Law 2 3 16 v take-if take-to) (λ a g r h. (
-    (λ kinds lengths.
+    (λ coded kinds lengths.
         let i : ℕ = a .w4 % 2 ^ 16 in
         let n : ℕ = a .w15 % 2 ^ 16 in
         simp (g, r, lt-ltb i n (omega arith), lt-ltb (i + 1) n (omega arith), small (i + 1) (a .w15) (omega arith))),

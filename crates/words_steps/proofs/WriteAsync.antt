@@ -24,7 +24,7 @@ module _ (v : ℕ) where
 
   pub none-free : (s : List ℕ) → length s ≡ 20 → Law 5 0 8 v none-free-if none-free-to s
   unfolding held-at transfer-in place-in point-at step-of held-in who-in fill-at step-fill free-step places filling abort-at caller-at
-  none-free = each (Law 5 0 8 v none-free-if none-free-to) (λ a g r h. ((λ kinds lengths. simp (g, r, h)), refl, r))
+  none-free = each (Law 5 0 8 v none-free-if none-free-to) (λ a g r h. ((λ coded kinds lengths. simp (g, r, h)), refl, r))
 
   -- `Free` to `Fill`
   abbrev some-to-fill-if : List ℕ → Type 0
@@ -37,7 +37,7 @@ module _ (v : ℕ) where
   unfolding held-at transfer-in place-in point-at step-of held-in who-in fill-at step-fill free-step places filling
   some-to-fill = each (Law 5 0 41 v some-to-fill-if some-to-fill-to)
       (λ a g r h. (
-        (λ kinds lengths. simp (
+        (λ coded kinds lengths. simp (
           g,
           r,
           not-over v (h .0),
@@ -59,7 +59,7 @@ module _ (v : ℕ) where
   pub last-filled : (s : List ℕ) → length s ≡ 20 → Law 5 1 8 v last-filled-if last-filled-to s
   unfolding held-at transfer-in place-in point-at step-of held-in who-in fill-at step-fill after-index filling abort-at caller-at
   last-filled = each (Law 5 1 8 v last-filled-if last-filled-to) (λ a g r h. (
-    (λ kinds lengths.
+    (λ coded kinds lengths.
         let i : ℕ = a .w4 % 2 ^ 16 in
         let n : ℕ = a .w15 % 2 ^ 16 in
         simp (g, r, lt-ltb i n (omega (arith, h .0)), h .1, small (i + 1) (a .w15) (h .0))),
@@ -77,7 +77,7 @@ module _ (v : ℕ) where
   pub place-filled : (s : List ℕ) → length s ≡ 20 → Law 5 1 41 v place-filled-if place-filled-to s
   unfolding held-at transfer-in place-in point-at step-of held-in who-in fill-at step-fill after-index filling
   place-filled = each (Law 5 1 41 v place-filled-if place-filled-to) (λ a g r h. (
-    (λ kinds lengths.
+    (λ coded kinds lengths.
         let i : ℕ = a .w4 % 2 ^ 16 in
         let n : ℕ = a .w15 % 2 ^ 16 in
         let k : ℕ = a .w5 % 2 ^ 16 in
@@ -104,4 +104,4 @@ module _ (v : ℕ) where
 
   pub to-free : (s : List ℕ) → length s ≡ 20 → Law 5 2 40 v to-free-if to-free-to s
   unfolding held-at transfer-in place-in point-at step-of held-in who-in fill-at step-fill full-step places
-  to-free = each (Law 5 2 40 v to-free-if to-free-to) (λ a g r h. ((λ kinds lengths. simp (g, r, not-over v h, some-free v h)), g, refl))
+  to-free = each (Law 5 2 40 v to-free-if to-free-to) (λ a g r h. ((λ coded kinds lengths. simp (g, r, not-over v h, some-free v h)), g, refl))

@@ -22,7 +22,7 @@ module _ (v : ℕ) where
 
   pub send : (s : List ℕ) → length s ≡ 20 → Law 3 0 25 v send-if send-to s
   unfolding held-at transfer-in place-in point-at step-of held-in who-in write-at step-write
-  send = each (Law 3 0 25 v send-if send-to) (λ a g r h. ((λ kinds lengths. simp (g, r)), g, refl))
+  send = each (Law 3 0 25 v send-if send-to) (λ a g r h. ((λ coded kinds lengths. simp (g, r)), g, refl))
 
   -- `Empty` to a look for an abort: the FIFO is empty
   abbrev empty-if : List ℕ → Type 0
@@ -33,7 +33,7 @@ module _ (v : ℕ) where
 
   pub empty : (s : List ℕ) → length s ≡ 20 → Law 3 1 8 v empty-if empty-to s
   unfolding held-at transfer-in place-in point-at step-of held-in who-in write-at step-write abort-at caller-at
-  empty = each (Law 3 1 8 v empty-if empty-to) (λ a g r h. ((λ kinds lengths. simp (g, r, h)), refl, refl))
+  empty = each (Law 3 1 8 v empty-if empty-to) (λ a g r h. ((λ coded kinds lengths. simp (g, r, h)), refl, refl))
 
   -- `Empty` again
   abbrev waiting-if : List ℕ → Type 0
@@ -44,4 +44,4 @@ module _ (v : ℕ) where
 
   pub waiting : (s : List ℕ) → length s ≡ 20 → Law 3 1 25 v waiting-if waiting-to s
   unfolding held-at transfer-in place-in point-at step-of held-in who-in write-at step-write
-  waiting = each (Law 3 1 25 v waiting-if waiting-to) (λ a g r h. ((λ kinds lengths. simp (g, r, h)), g, r))
+  waiting = each (Law 3 1 25 v waiting-if waiting-to) (λ a g r h. ((λ coded kinds lengths. simp (g, r, h)), g, r))

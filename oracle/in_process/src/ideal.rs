@@ -14,6 +14,9 @@ const STOP_DET: u32 = 1 << 9;
 const RFNE: u32 = 1 << 3;
 const READ: u32 = 1 << 8;
 
+/// Every byte that is read.
+pub const BYTE: u32 = 0x5A;
+
 /// The readings that a transfer takes, and the number of its accesses.
 pub fn of_transfer(mut transfer: Transfer) -> (Vec<u32>, usize) {
     let mut readings = Vec::new();
@@ -28,7 +31,7 @@ pub fn of_transfer(mut transfer: Transfer) -> (Vec<u32>, usize) {
                     RXFLR => received,
                     DATA_CMD => {
                         received -= 1;
-                        0x5A
+                        BYTE
                     }
                     _ => 0,
                 };
@@ -65,7 +68,7 @@ impl Chooser for Master {
             DATA_CMD => {
                 self.bytes -= 1;
                 self.in_fifo -= 1;
-                0x5A
+                BYTE
             }
             _ => 0,
         })

@@ -19,12 +19,16 @@ pub fn run(call: &Call, buffer: &mut Vec<u8>) -> Option<Answer> {
             call::Operation::Write(count) => Operation::Write(count.try_into().unwrap_or(u16::MAX)),
         })
         .collect();
-    let queued = form >= 4;
-    let transfer = match form % 4 {
-        0 => Transfer::read(queued, address, buffer),
-        1 => Transfer::write(queued, address, &call.bytes),
-        2 => Transfer::write_read(queued, address, &call.bytes, buffer),
-        _ => Transfer::transaction(queued, address, &operations, &call.bytes, buffer),
+    let (queued, bytes) = (form & 4 != 0, &call.bytes[..]);
+    let transfer = match (form & 8 != 0, form % 4) {
+        (false, 0) => Transfer::read(queued, address, buffer),
+        (false, 1) => Transfer::write(queued, address, bytes),
+        (false, 2) => Transfer::write_read(queued, address, bytes, buffer),
+        (false, _) => Transfer::transaction(queued, address, &operations, bytes, buffer),
+        (true, 0) => Transfer::read_pec(queued, address, buffer),
+        (true, 1) => Transfer::write_pec(queued, address, bytes),
+        (true, 2) => Transfer::write_read_pec(queued, address, bytes, buffer),
+        (true, _) => Transfer::transaction_pec(queued, address, &operations, bytes, buffer),
     };
     let answer = bus::run(&call.readings, None, || to_end(transfer));
     Some(answer.unwrap_or_else(|ended| match ended {

@@ -89,7 +89,15 @@ impl Rattle {
             4 => master::read_async(address, read, readings, log),
             5 => master::write_async(address, write, readings, log),
             6 => master::write_read_async(address, write, read, readings, log),
-            _ => master::transaction_async(address, &self.kinds, &self.lengths, write, read, readings, log),
+            7 => master::transaction_async(address, &self.kinds, &self.lengths, write, read, readings, log),
+            8 => master::blocking_read_pec(address, read, readings, log),
+            9 => master::blocking_write_pec(address, write, readings, log),
+            10 => master::blocking_write_read_pec(address, write, read, readings, log),
+            11 => master::transaction_pec(address, &self.kinds, &self.lengths, write, read, readings, log),
+            12 => master::read_async_pec(address, read, readings, log),
+            13 => master::write_async_pec(address, write, readings, log),
+            14 => master::write_read_async_pec(address, write, read, readings, log),
+            _ => master::transaction_async_pec(address, &self.kinds, &self.lengths, write, read, readings, log),
         };
         self.left(left, |()| 0)
     }

@@ -8,6 +8,7 @@ use std::io::{self, Write};
 
 use crate::bus;
 use crate::call::{Call, MOST_READINGS};
+use crate::coded;
 use crate::drivers::Drivers;
 use crate::frames;
 use plan::Plan;
@@ -30,8 +31,11 @@ impl Calls {
     pub fn next_call(&mut self) -> Call {
         let mut call = Plan { rng: &mut self.rng, small: self.small }.call();
         let sim = Sim::new(Rng::new(self.rng.next()), call.kind);
-        self.drivers.run(&call, Some(Box::new(sim)));
+        let answer = self.drivers.run(&call, Some(Box::new(sim)));
         bus::with_record(|_, readings| call.readings.extend_from_slice(readings));
+        if answer.number == 22 && self.rng.chance(600) {
+            bus::with_record(|log, _| coded::correct(&mut call, log, &self.drivers.buffer));
+        }
         if self.rng.chance(100) {
             for _ in 0..1 + self.rng.below(4) {
                 call.readings.push(self.rng.word());

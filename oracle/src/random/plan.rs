@@ -74,7 +74,7 @@ impl Plan<'_> {
     }
 
     fn master(&mut self) -> Call {
-        let form = self.rng.below(8) as u8;
+        let form = (self.rng.below(8) | if self.rng.chance(400) { 8 } else { 0 }) as u8;
         let address = match self.rng.below(16) {
             0 => self.rng.pick(&ADDRESSES),
             1 => self.rng.word() as u16 >> self.rng.below(16),

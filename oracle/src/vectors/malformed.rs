@@ -30,7 +30,7 @@ const FILES: [(&str, &str); 62] = [
     ("clock-short", "01000186A00773594\nFF\n"),
     ("clock-long", "01000186A0077359400\nFF\n"),
     ("clock-with-operation", "01000186A007735940\n110001\nFF\n"),
-    ("master-form-8", "02080042\nFF\n"),
+    ("master-form-10", "02100042\nFF\n"),
     ("master-form-ff", "02FF0042\nFF\n"),
     ("master-short", "0200042\nFF\n"),
     ("master-long", "020000042\nFF\n"),

@@ -7,7 +7,7 @@ use crate::offsets::*;
 const TX_EMPTY: u32 = 0x10;
 const STOP_DET: u32 = 0x200;
 const BOTH: u32 = TX_EMPTY | STOP_DET;
-const NAMES: [&str; 8] = [
+pub const NAMES: [&str; 8] = [
     "blocking read",
     "blocking write",
     "blocking write-read",
@@ -19,7 +19,7 @@ const NAMES: [&str; 8] = [
 ];
 
 /// A form's operations, of the lengths given.
-fn operations(form: u8, written: usize, read: usize) -> Vec<Operation> {
+pub fn operations(form: u8, written: usize, read: usize) -> Vec<Operation> {
     match form % 4 {
         0 => vec![Read(read)],
         1 => vec![Write(written)],

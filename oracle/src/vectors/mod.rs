@@ -1,6 +1,7 @@
 //! The stored sample: named calls for each form, number and corner, and malformed files.
 
 mod clock;
+mod coded;
 mod malformed;
 mod master;
 mod slave;
@@ -10,7 +11,7 @@ use std::io;
 use std::path::Path;
 
 use crate::bus::{self, Chooser, Entry};
-use crate::call::{Call, Kind, Operation};
+use crate::call::{Answer, Call, Kind, Operation};
 use crate::drivers::Drivers;
 use crate::frames;
 use crate::offsets::*;
@@ -62,13 +63,31 @@ impl Vectors {
 
     /// Adds a call that gets at most `left` readings.
     pub fn add_cut(&mut self, name: &str, mut call: Call, rules: &[Rule], left: usize) {
+        self.read(&mut call, rules, left);
+        self.put(name, &call);
+    }
+
+    /// Adds a call whose readings follow the rules, but that the packet error code which it fetches is right.
+    pub fn add_right(&mut self, name: &str, mut call: Call, rules: &[Rule]) {
+        if self.read(&mut call, rules, usize::MAX).number == 22 {
+            bus::with_record(|log, _| crate::coded::correct(&mut call, log, &self.drivers.buffer));
+        }
+        self.put(name, &call);
+    }
+
+    /// Runs the call, and gives it the readings that it took.
+    fn read(&mut self, call: &mut Call, rules: &[Rule], left: usize) -> Answer {
         let rules = rules.iter().map(|(offset, readings)| (*offset, readings.clone(), 0)).collect();
         let given = call.readings.len();
-        self.drivers.run(&call, Some(Box::new(Script { rules, left, bytes: 0 })));
+        let answer = self.drivers.run(call, Some(Box::new(Script { rules, left, bytes: 0 })));
         bus::with_record(|_, readings| call.readings.extend_from_slice(&readings[given..]));
+        answer
+    }
+
+    fn put(&mut self, name: &str, call: &Call) {
         self.names += &format!("{} {name}\n", self.lines + 1);
         let before = self.frames.len();
-        frames::put_call(&call, &mut self.frames);
+        frames::put_call(call, &mut self.frames);
         self.lines += self.frames[before..].iter().filter(|byte| **byte == b'\n').count();
     }
 
@@ -101,6 +120,7 @@ pub fn write(folder: &Path) -> io::Result<()> {
     clock::add(&mut vectors);
     master::add(&mut vectors);
     slave::add(&mut vectors);
+    coded::add(&mut vectors);
     fs::create_dir_all(folder.join("malformed"))?;
     write_pair(folder, "calls", &vectors.frames)?;
     fs::write(folder.join("calls.names"), vectors.names)?;

@@ -75,6 +75,64 @@ pub fn transaction_async(
     call!(celadonsaw_transaction_async(address, ref kinds, ref lengths, ref write, mut read, ref readings, mut log))
 }
 
+pub fn blocking_read_pec(address: u16, read: &mut [u8], readings: &[u32], log: &mut [u32]) -> Report {
+    call!(celadonsaw_blocking_read_pec(address, mut read, ref readings, mut log))
+}
+
+pub fn blocking_write_pec(address: u16, write: &[u8], readings: &[u32], log: &mut [u32]) -> Report {
+    call!(celadonsaw_blocking_write_pec(address, ref write, ref readings, mut log))
+}
+
+pub fn blocking_write_read_pec(
+    address: u16,
+    write: &[u8],
+    read: &mut [u8],
+    readings: &[u32],
+    log: &mut [u32],
+) -> Report {
+    call!(celadonsaw_blocking_write_read_pec(address, ref write, mut read, ref readings, mut log))
+}
+
+pub fn transaction_pec(
+    address: u16,
+    kinds: &[u8],
+    lengths: &[u16],
+    write: &[u8],
+    read: &mut [u8],
+    readings: &[u32],
+    log: &mut [u32],
+) -> Report {
+    call!(celadonsaw_transaction_pec(address, ref kinds, ref lengths, ref write, mut read, ref readings, mut log))
+}
+
+pub fn read_async_pec(address: u16, read: &mut [u8], readings: &[u32], log: &mut [u32]) -> Report {
+    call!(celadonsaw_read_async_pec(address, mut read, ref readings, mut log))
+}
+
+pub fn write_async_pec(address: u16, write: &[u8], readings: &[u32], log: &mut [u32]) -> Report {
+    call!(celadonsaw_write_async_pec(address, ref write, ref readings, mut log))
+}
+
+pub fn write_read_async_pec(address: u16, write: &[u8], read: &mut [u8], readings: &[u32], log: &mut [u32]) -> Report {
+    call!(celadonsaw_write_read_async_pec(address, ref write, mut read, ref readings, mut log))
+}
+
+pub fn transaction_async_pec(
+    address: u16,
+    kinds: &[u8],
+    lengths: &[u16],
+    write: &[u8],
+    read: &mut [u8],
+    readings: &[u32],
+    log: &mut [u32],
+) -> Report {
+    call!(celadonsaw_transaction_async_pec(address, ref kinds, ref lengths, ref write, mut read, ref readings, mut log))
+}
+
+pub fn crc8(start: u8, bytes: &[u8]) -> u8 {
+    call!(celadonsaw_crc8(start, ref bytes))
+}
+
 pub fn slave_reset(slave: Slave, address: u16, general_call: bool, readings: &[u32], log: &mut [u32]) -> SlaveReport {
     call!(celadonsaw_slave_reset(slave, address, general_call, ref readings, mut log))
 }
@@ -112,4 +170,48 @@ pub fn advance(words: &mut Words, value: u32, kinds: &[u8], lengths: &[u16], rea
 #[inline]
 pub fn step(words: &mut Words, value: u32, kinds: &[u8], lengths: &[u16], write: &[u8], read: &mut [u8]) -> Access {
     call!(celadonsaw_step(words, value, ref kinds, ref lengths, ref write, mut read))
+}
+
+pub fn start_pec(
+    words: &mut Words,
+    code: &mut Code,
+    form: u8,
+    address: u16,
+    kinds: &[u8],
+    lengths: &[u16],
+    written: usize,
+    room: usize,
+) {
+    call!(celadonsaw_start_pec(words, code, form, address, ref kinds, ref lengths, written, room))
+}
+
+#[inline]
+pub fn next_access_pec(words: &Words, code: &Code, write: &[u8]) -> Access {
+    call!(celadonsaw_next_access_pec(words, code, ref write))
+}
+
+#[inline]
+pub fn advance_pec(
+    words: &mut Words,
+    code: &mut Code,
+    value: u32,
+    kinds: &[u8],
+    lengths: &[u16],
+    write: &[u8],
+    read: &mut [u8],
+) {
+    call!(celadonsaw_advance_pec(words, code, value, ref kinds, ref lengths, ref write, mut read))
+}
+
+#[inline]
+pub fn step_pec(
+    words: &mut Words,
+    code: &mut Code,
+    value: u32,
+    kinds: &[u8],
+    lengths: &[u16],
+    write: &[u8],
+    read: &mut [u8],
+) -> Access {
+    call!(celadonsaw_step_pec(words, code, value, ref kinds, ref lengths, ref write, mut read))
 }

@@ -1,6 +1,8 @@
 //! The static library's structs and functions, as `include/celadonsaw.h` declares them.
 
 mod calls;
+#[cfg(test)]
+mod tests;
 
 pub use calls::*;
 
@@ -31,6 +33,9 @@ pub struct SlaveReport {
 
 /// A transfer. Nothing outside the library looks inside.
 pub type Words = [u64; 20];
+
+/// The packet error code of a transfer under way: the register, and the direction of the last data byte.
+pub type Code = [u8; 2];
 
 #[repr(C)]
 #[derive(Clone, Copy)]
@@ -217,55 +222,133 @@ extern "C" {
         read: *mut u8,
         read_len: usize,
     ) -> Access;
-}
-
-// What the safe functions do not show.
-#[cfg(test)]
-mod tests {
-    use super::*;
-
-    #[test]
-    fn a_byte_that_is_not_kept_is_0() {
-        let before = Slave { has_pending: false, pending_byte: 0x33, address: 0x155, general_call: true };
-        let left = slave_respond_till_stop(before, 1, &[], &mut [0; 2]);
-        assert_eq!((left.state.has_pending, left.state.pending_byte), (false, 0));
-        assert_eq!((left.state.address, left.state.general_call), (0x155, true));
-        assert_eq!((left.report.number, left.report.entries, left.report.used), (18, 0, 0));
-    }
-
-    #[test]
-    fn an_access_has_only_its_own_fields() {
-        let fields = |access: Access| (access.kind, access.register, access.number, access.value);
-        let mut words = [0; 20];
-        start(&mut words, 0, 0x42, &[0], &[1], 0, 1);
-        assert_eq!(fields(next_access(&words, &[])), (2, 0x6C, 0, 0));
-        assert_eq!(fields(step(&mut words, 0, &[0], &[1], &[], &mut [0])), (2, 0x04, 0, 0x42));
-        start(&mut words, 0, 0xFFFF, &[0], &[1], 0, 1);
-        assert_eq!(fields(next_access(&words, &[])), (0, 0, 6, 0xFFFF));
-        assert_eq!(fields(step(&mut words, 0, &[0], &[1], &[], &mut [0])), (0, 0, 6, 0xFFFF));
-    }
-
-    #[test]
-    fn kinds_that_are_not_of_the_form_are_20() {
-        let refused = |form, kinds: &[u8], lengths: &[u16], written, room| {
-            let mut words = [0; 20];
-            start(&mut words, form, 0x42, kinds, lengths, written, room);
-            let access = next_access(&words, &[0; 2][..written]);
-            (access.kind, access.register, access.number, access.value) == (0, 0, 20, 0)
-        };
-        let listed: [(&[u8], &[u16], usize, usize); 6] = [
-            (&[], &[], 0, 0),
-            (&[0], &[1], 0, 1),
-            (&[1], &[1], 1, 0),
-            (&[1, 0], &[1, 1], 1, 1),
-            (&[0, 1], &[1, 1], 1, 1),
-            (&[0, 0], &[1, 1], 0, 2),
-        ];
-        for form in 0..=255 {
-            for (place, (kinds, lengths, written, room)) in listed.into_iter().enumerate() {
-                let of_the_form = form < 8 && (form % 4 == 3 || place == usize::from(form % 4) + 1);
-                assert_eq!(refused(form, kinds, lengths, written, room), !of_the_form, "form {form}, kinds {kinds:?}");
-            }
-        }
-    }
+    fn celadonsaw_blocking_read_pec(
+        address: u16,
+        read: *mut u8,
+        read_len: usize,
+        readings: *const u32,
+        readings_len: usize,
+        log: *mut u32,
+        log_len: usize,
+    ) -> Report;
+    fn celadonsaw_blocking_write_pec(
+        address: u16,
+        write: *const u8,
+        write_len: usize,
+        readings: *const u32,
+        readings_len: usize,
+        log: *mut u32,
+        log_len: usize,
+    ) -> Report;
+    fn celadonsaw_blocking_write_read_pec(
+        address: u16,
+        write: *const u8,
+        write_len: usize,
+        read: *mut u8,
+        read_len: usize,
+        readings: *const u32,
+        readings_len: usize,
+        log: *mut u32,
+        log_len: usize,
+    ) -> Report;
+    fn celadonsaw_transaction_pec(
+        address: u16,
+        kinds: *const u8,
+        kinds_len: usize,
+        lengths: *const u16,
+        lengths_len: usize,
+        write: *const u8,
+        write_len: usize,
+        read: *mut u8,
+        read_len: usize,
+        readings: *const u32,
+        readings_len: usize,
+        log: *mut u32,
+        log_len: usize,
+    ) -> Report;
+    fn celadonsaw_read_async_pec(
+        address: u16,
+        read: *mut u8,
+        read_len: usize,
+        readings: *const u32,
+        readings_len: usize,
+        log: *mut u32,
+        log_len: usize,
+    ) -> Report;
+    fn celadonsaw_write_async_pec(
+        address: u16,
+        write: *const u8,
+        write_len: usize,
+        readings: *const u32,
+        readings_len: usize,
+        log: *mut u32,
+        log_len: usize,
+    ) -> Report;
+    fn celadonsaw_write_read_async_pec(
+        address: u16,
+        write: *const u8,
+        write_len: usize,
+        read: *mut u8,
+        read_len: usize,
+        readings: *const u32,
+        readings_len: usize,
+        log: *mut u32,
+        log_len: usize,
+    ) -> Report;
+    fn celadonsaw_transaction_async_pec(
+        address: u16,
+        kinds: *const u8,
+        kinds_len: usize,
+        lengths: *const u16,
+        lengths_len: usize,
+        write: *const u8,
+        write_len: usize,
+        read: *mut u8,
+        read_len: usize,
+        readings: *const u32,
+        readings_len: usize,
+        log: *mut u32,
+        log_len: usize,
+    ) -> Report;
+    fn celadonsaw_crc8(start: u8, bytes: *const u8, bytes_len: usize) -> u8;
+    fn celadonsaw_start_pec(
+        words: *mut Words,
+        code: *mut Code,
+        form: u8,
+        address: u16,
+        kinds: *const u8,
+        kinds_len: usize,
+        lengths: *const u16,
+        lengths_len: usize,
+        written: usize,
+        room: usize,
+    );
+    fn celadonsaw_next_access_pec(words: *const Words, code: *const Code, write: *const u8, write_len: usize)
+        -> Access;
+    fn celadonsaw_advance_pec(
+        words: *mut Words,
+        code: *mut Code,
+        value: u32,
+        kinds: *const u8,
+        kinds_len: usize,
+        lengths: *const u16,
+        lengths_len: usize,
+        write: *const u8,
+        write_len: usize,
+        read: *mut u8,
+        read_len: usize,
+    );
+    fn celadonsaw_step_pec(
+        words: *mut Words,
+        code: *mut Code,
+        value: u32,
+        kinds: *const u8,
+        kinds_len: usize,
+        lengths: *const u16,
+        lengths_len: usize,
+        write: *const u8,
+        write_len: usize,
+        read: *mut u8,
+        read_len: usize,
+    ) -> Access;
 }

@@ -66,7 +66,7 @@ returns-2 c =
     let some : eqb (at-step .step .result) 0 ≡ false = ne-eqb _ _ (at-if1 .if1 .left) in (
       c .told-access .ensures ∙ simp (c .before .access-at .ensures, at-step .step .ensures .live some),
       (
-        at-step .step .ensures .moved some _ _,
+        at-step .step .ensures .moved some _ _ _,
         at-keep .keep .ensures ∙ ap (stored-in _) (at-store .store .ensures),
       ),
     )

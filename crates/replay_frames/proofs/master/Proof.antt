@@ -1,4 +1,4 @@
--- `master`: the two matches and the test f < 8 (`lt-ltb`, `le-ltb`) decide the branch of `master-of`; that
+-- `master`: the two matches and the test f < 16 (`lt-ltb`, `le-ltb`) decide the branch of `master-of`; that
 -- test makes the cast of the form to u8 exact, and `Below 4` bounds the address by 65536 for the cast to u16.
 use Prim.Native.Nat.{_<_}
 use native.Mathlib.Omega.{arith}

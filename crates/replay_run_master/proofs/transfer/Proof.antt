@@ -3,9 +3,9 @@
 -- log reads back as the outcome's entries; `room` is what `push_outcome` needs.
 use mathlib.Core.Path.{_≡_}
 use lib.ListN.{length, replicate, length-replicate}
-use Rattle.replay_calls.specs.Calls.{listed, mode-of, transfer-of, buffer-of}
+use Rattle.replay_calls.specs.Calls.{listed, within-form, transfer-of, buffer-of}
 use borrow.Author.Tests.{ne-eqb}
-use Rattle.master.specs.Transfer.{write-call}
+use Rattle.master.specs.Operations.{write, fits}
 use Rattle.replay_calls.proofs.Legal.{transfer-of-legal}
 use Rattle.replay_calls.proofs.Prints.{room, prints, prints-none}
 use native.Mathlib.Omega.{arith}
@@ -49,7 +49,7 @@ returns c =
     let at-start = at-slice-known .before .before .before .before in
     let a = at-start .args in
     let l = at-write .write in
-    let w = write-call (mode-of (a .form)) (a .address) (a .bytes .now) in
+    let w = within-form (a .form) (a .address) (fits (length (a .bytes .now))) (write (a .bytes .now)) in
     let p = transfer-of-legal (a .form) (a .address) (a .kinds .now) (a .lengths .now) (a .bytes .now) (a .room .now) in
     rw (at-if1 .if1 .taken, ← at-has-read .has-read .ensures)
     (prints-none w (rw (at-if1 .if1 .taken) at p) (a .log .now) (a .readings .now) tt (at-start .pre .1)

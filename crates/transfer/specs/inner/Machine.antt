@@ -126,9 +126,7 @@ next-at bytes t (Finished a) = N.Finished a
 abbrev pub next-of : List ℕ → Transfer → Next
 next-of bytes t = next-at bytes t (t .point)
 
--- ---- what is stored
-
--- a place in a buffer; within the limits the sum never wraps
+-- ---- what is stored, by its place in a buffer; within the limits the sum never wraps
 abbrev pub sum-of : ℕ → ℕ → ℕ
 sum-of a n = (a + n) % 2 ^ 64
 
@@ -327,11 +325,12 @@ step-of len send-stop (Wait p) v = step-wait p v
 step-of len send-stop (Stop p) v = step-stop p v
 step-of len send-stop (Finished a) v = Go (Finished a)
 
--- ---- operations
+-- ---- operations. `coded`, that a packet error code goes with the transfer, changes how one is opened, and nothing else:
+-- an empty write is refused in both modes, and the last operation, where it has data, is one byte longer.
 
-unfoldable pub write-point : Mode → ℕ → Point
-write-point Blocking len = if eqb len 0 then Finished (Refused X.InvalidWriteBufferLength) else WriteBlocking (W.Send 0)
-write-point Async len = WriteAsync (F.Free 0)
+unfoldable pub write-point : Bool → Mode → ℕ → Point
+write-point coded Blocking len = if eqb len 0 then Finished (Refused X.InvalidWriteBufferLength) else WriteBlocking (W.Send 0)
+write-point coded Async len = if coded && eqb len 0 then Finished (Refused X.InvalidWriteBufferLength) else WriteAsync (F.Free 0)
 
 unfoldable pub some-read : Mode → ℕ → Point
 some-read Blocking len = ReadBlocking (R.Room 0)
@@ -341,9 +340,9 @@ unfoldable pub read-point : Mode → ℕ → Point
 read-point mode len = if eqb len 0 then Finished (Refused X.InvalidReadBufferLength) else some-read mode len
 
 -- the transfer at its next operation, the n-th, of the kind and the length given; `last` where none follows
-unfoldable pub opened-write : Transfer → ℕ → ℕ → Bool → Transfer
-opened-write t n len last =
-    transfer-at (write-point (t .mode) len) (t .mode) (t .restart) last (t .address) len (t .writes) n (t .reads)
+unfoldable pub opened-write : Bool → Transfer → ℕ → ℕ → Bool → Transfer
+opened-write coded t n len last =
+    transfer-at (write-point coded (t .mode) len) (t .mode) (t .restart) last (t .address) len (t .writes) n (t .reads)
     (sum-of (t .writes) len)
 
 unfoldable pub opened-read : Transfer → ℕ → ℕ → Bool → Transfer
@@ -351,21 +350,29 @@ opened-read t n len last =
     transfer-at (read-point (t .mode) len) (t .mode) (t .restart) last (t .address) len (t .reads) n
     (sum-of (t .reads) len) (t .writes)
 
-unfoldable pub opened : Transfer → ℕ → ℕ → ℕ → Bool → Transfer
-opened t n kind len last = if eqb kind 1 then opened-write t n len last else opened-read t n len last
+unfoldable pub opened : Bool → Transfer → ℕ → ℕ → ℕ → Bool → Transfer
+opened coded t n kind len last = if eqb kind 1 then opened-write coded t n len last else opened-read t n len last
 
-unfoldable pub begun : List ℕ → List ℕ → Transfer → Transfer
-begun kinds lengths t =
+-- a length with a byte more for the code: 0 and 65,535 stay; and that of an operation, the last or not
+unfoldable pub longer-length : ℕ → ℕ
+longer-length len = if eqb len 0 then len else (if ltb len 65535 then len + 1 else len)
+
+unfoldable pub length-for : Bool → Bool → ℕ → ℕ
+length-for coded last len = if coded && last then longer-length len else len
+
+unfoldable pub begun : Bool → List ℕ → List ℕ → Transfer → Transfer
+begun coded kinds lengths t =
     if ltb (t .begun) (length kinds)
-    then opened t (t .begun + 1) (getD kinds (t .begun) 0) (getD lengths (t .begun) 0) (eqb (t .begun + 1) (length kinds))
+    then opened coded t (t .begun + 1) (getD kinds (t .begun) 0)
+    (length-for coded (eqb (t .begun + 1) (length kinds)) (getD lengths (t .begun) 0)) (eqb (t .begun + 1) (length kinds))
     else with-point t (Finished Accepted)
 
-abbrev pub moved-to : List ℕ → List ℕ → Transfer → Step → Transfer
-moved-to kinds lengths t (Go p) = with-point t p
-moved-to kinds lengths t Done = begun kinds lengths t
+abbrev pub moved-to : Bool → List ℕ → List ℕ → Transfer → Step → Transfer
+moved-to coded kinds lengths t (Go p) = with-point t p
+moved-to coded kinds lengths t Done = begun coded kinds lengths t
 
-abbrev pub advance-of : List ℕ → List ℕ → Transfer → ℕ → Transfer
-advance-of kinds lengths t v = moved-to kinds lengths t (step-of (t .len) (t .«send_stop») (t .point) v)
+abbrev pub advance-of : Bool → List ℕ → List ℕ → Transfer → ℕ → Transfer
+advance-of coded kinds lengths t v = moved-to coded kinds lengths t (step-of (t .len) (t .«send_stop») (t .point) v)
 
 -- a transfer before its first access
 unfoldable pub tested-point : ℕ → Point
@@ -380,6 +387,12 @@ abbrev pub started : Mode → Bool → ℕ → List ℕ → Transfer
 started mode restart address kinds =
     transfer-at (first-point mode address (eqb (length kinds) 0)) mode restart false address 0 0 0 0 0
 
-abbrev pub machine : List ℕ → List ℕ → List ℕ → Machine
-machine kinds lengths bytes =
-    record { S = Transfer; K = Unit {0}; next = next-of bytes; advance = advance-of kinds lengths; store = store-of; state = λ t. tt }
+abbrev pub machine : Bool → List ℕ → List ℕ → List ℕ → Machine
+machine coded kinds lengths bytes = record {
+  S = Transfer;
+  K = Unit {0};
+  next = next-of bytes;
+  advance = advance-of coded kinds lengths;
+  store = store-of;
+  state = λ t. tt;
+}

@@ -2,6 +2,7 @@
 -- the operation, the burst's own contract is the answer.
 use borrow.Author.Needs.{needs}
 use native.Mathlib.Omega.{arith}
+use mathlib.Core.Bool.{false}
 use mathlib.Core.List.{[]}
 use Rattle.transfer_fast.proofs.Coming.{then-polls}
 use Rattle.transfer_fast.proofs.ahead_from.Statement.{statement}
@@ -17,7 +18,7 @@ polls-requires : tie.Need-polls-requires
 polls-requires c κs =
     let at-slice-known4 = c .before .before .before .before in
     let at-burst-from = at-slice-known4 .before .before .before .before in
-    let g = at-burst-from .burst-from .ensures .reaches [] [] in
+    let g = at-burst-from .burst-from .ensures .reaches false [] [] in
     omega (arith, g .room, g .long)
 
 came-requires : tie.Need-came-requires

@@ -14,8 +14,8 @@ use Rattle.regs_runs.specs.inner.Reaches.{Reaches}
 -- of a transfer whose operation has `len` bytes from `at` on
 pub record Bursts (len at : ℕ) (restart : Bool) (bytes readings : List ℕ) (p : Point) (e u : ℕ) (l b : List ℕ)
     (p′ : Point) (e′ u′ : ℕ) (l′ b′ : List ℕ) : Type 0 where
-  pub reaches : (kinds lengths : List ℕ) (t : Transfer) → t .len ≡ len → t .at ≡ at → t .restart ≡ restart
-      → Reaches (machine kinds lengths bytes) readings (with-point t p) e u l b (with-point t p′) e′ u′ l′ b′
+  pub reaches : (coded : Bool) (kinds lengths : List ℕ) (t : Transfer) → t .len ≡ len → t .at ≡ at → t .restart ≡ restart
+      → Reaches (machine coded kinds lengths bytes) readings (with-point t p) e u l b (with-point t p′) e′ u′ l′ b′
 
 -- a burst is the same whatever it does not look at
 abbrev pub ForAny : {A : Type 0} → (A → Type 0) → Type 0

@@ -17,8 +17,8 @@ use Rattle.regs_runs.specs.inner.Reaches.{Reaches}
 
 -- whatever the transfer is
 pub record Stays (p : Point) (readings : List ℕ) (e u : ℕ) (l : List ℕ) (e′ u′ : ℕ) (l′ : List ℕ) : Type 0 where
-  pub reaches : (kinds lengths bytes : List ℕ) (t : Transfer) (b : List ℕ)
-      → Reaches (machine kinds lengths bytes) readings (with-point t p) e u l b (with-point t p) e′ u′ l′ b
+  pub reaches : (coded : Bool) (kinds lengths bytes : List ℕ) (t : Transfer) (b : List ℕ)
+      → Reaches (machine coded kinds lengths bytes) readings (with-point t p) e u l b (with-point t p) e′ u′ l′ b
 
 -- ---- RAW_INTR_STAT is read until a flag is set: STOP_DET, or else TX_EMPTY
 

@@ -34,7 +34,7 @@ returns-2 c =
     let at-if1 = c .before .before in
     let at-start = at-if1 .before .before .before .before in
     record {
-      reaches = λ kinds lengths bytes t el ea es er. stays (machine kinds lengths bytes) _ (at-start .pre)
+      reaches = λ coded kinds lengths bytes t el ea es er. stays (machine coded kinds lengths bytes) _ (at-start .pre)
           (omega (arith, at-start .good .1 .1 .1 .1 .1 .1 .1 .1 .1 .0));
     }
 
@@ -42,7 +42,7 @@ returns-3 : tie.Need-returns-3
 returns-3 c =
     let at-start = c .before .before .before .before in
     record {
-      reaches = λ kinds lengths bytes t el ea es er. stays (machine kinds lengths bytes) _ (at-start .pre)
+      reaches = λ coded kinds lengths bytes t el ea es er. stays (machine coded kinds lengths bytes) _ (at-start .pre)
           (omega (arith, at-start .good .1 .1 .1 .1 .1 .1 .1 .1 .1 .0));
     }
 

@@ -32,7 +32,7 @@ cast-place c = search needs
 add-place : tie.Need-add-place Inv-loop μ-loop
 add-place c =
     let at-start = c .before .before .before in
-    omega (arith, at-start .pre .2, at-start .pre .3)
+    omega (arith, at-start .pre .1, at-start .pre .2, at-start .pre .3)
 
 loop-holds : tie.Need-loop-holds Inv-loop μ-loop
 loop-holds c =

@@ -18,17 +18,17 @@ round remaining queue batch = record { remaining = remaining; queue = queue; bat
 
 -- so many words are queued
 pub record Queued (len : ℕ) (send-stop restart : Bool) (queue words e : ℕ) (l l′ : List ℕ) : Type 0 where
-  pub reaches : (kinds lengths bytes readings : List ℕ) (t : Transfer) (remaining batch u : ℕ) (b : List ℕ)
+  pub reaches : (coded : Bool) (kinds lengths bytes readings : List ℕ) (t : Transfer) (remaining batch u : ℕ) (b : List ℕ)
       → t .len ≡ len
       → t .«send_stop» ≡ send-stop
       → t .restart ≡ restart
-      → Reaches (machine kinds lengths bytes) readings (with-point t (ReadAsync (Queue (round remaining queue batch) words))) e u l b
+      → Reaches (machine coded kinds lengths bytes) readings (with-point t (ReadAsync (Queue (round remaining queue batch) words))) e u l b
       (with-point t (ReadAsync (Level (round remaining (queue - words) batch)))) (e + words) u l′ b
 
 -- so many bytes are fetched, and more remain
 pub record Fetched (len at : ℕ) (readings : List ℕ) (remaining left e u : ℕ) (l b l′ b′ : List ℕ) : Type 0 where
-  pub reaches : (kinds lengths bytes : List ℕ) (t : Transfer) (queue batch : ℕ) → t .len ≡ len → t .at ≡ at
-      → Reaches (machine kinds lengths bytes) readings (with-point t (ReadAsync (Fetch (round remaining queue batch) left))) e u l b
+  pub reaches : (coded : Bool) (kinds lengths bytes : List ℕ) (t : Transfer) (queue batch : ℕ) → t .len ≡ len → t .at ≡ at
+      → Reaches (machine coded kinds lengths bytes) readings (with-point t (ReadAsync (Fetch (round remaining queue batch) left))) e u l b
       (with-point t (ReadAsync (Capacity (round remaining queue batch)))) (e + left) (u + left) l′ b′
 
 -- what a round does that leads straight on: so many words, for which TXFLR has room, and so
@@ -45,10 +45,10 @@ pub record StraightRound (readings : List ℕ) (u e room remaining queue words c
 -- whole rounds
 pub record Rounds (len at : ℕ) (send-stop restart : Bool) (readings : List ℕ) (r : Round) (e u : ℕ) (l b : List ℕ)
     (r′ : Round) (e′ u′ : ℕ) (l′ b′ : List ℕ) : Type 0 where
-  pub reaches : (kinds lengths bytes : List ℕ) (t : Transfer)
+  pub reaches : (coded : Bool) (kinds lengths bytes : List ℕ) (t : Transfer)
       → t .len ≡ len
       → t .at ≡ at
       → t .«send_stop» ≡ send-stop
       → t .restart ≡ restart
-      → Reaches (machine kinds lengths bytes) readings (with-point t (ReadAsync (Capacity r))) e u l b
+      → Reaches (machine coded kinds lengths bytes) readings (with-point t (ReadAsync (Capacity r))) e u l b
       (with-point t (ReadAsync (Capacity r′))) e′ u′ l′ b′

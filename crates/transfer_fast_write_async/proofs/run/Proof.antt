@@ -11,7 +11,7 @@ use Prim.Native.Nat.{_/_, _-_, _<_}
 use mathlib.Core.Path.{_∙_}
 use lib.ListN.{length}
 use Rattle.transfer_fast_write_async.proofs.Filling.{Filling, more-bytes, same-word, word-fits, polls-next}
-use Rattle.transfer_fast_write_async.proofs.Filling.{one-filled}
+use Rattle.transfer_fast_write_async.proofs.Filling.{one-filled, has-place}
 use Rattle.transfer_fast_write_async.proofs.Fills.{Came, no-round, level-fits, none-filled, one-round, last-round}
 use borrow.Author.Needs.{needs}
 
@@ -101,27 +101,16 @@ loop-holds c =
 has-ended-requires : tie.Need-has-ended-requires Inv-loop μ-loop Inv-xmit μ-xmit
 has-ended-requires c κs = search needs
 
-cast-word-of-fill : tie.Need-cast-word-of-fill Inv-loop μ-loop Inv-xmit μ-xmit
-cast-word-of-fill c = search needs
-
-add-word-of-fill : tie.Need-add-word-of-fill Inv-loop μ-loop Inv-xmit μ-xmit
-add-word-of-fill c =
-    let at-loop = c .before .before .before in
-    let f = at-loop .loop .inv in
-    omega (arith, f .within, f .held, f .fits)
-
-shared-slice-read-word-of-fill :
-    tie.Need-shared-slice-read-word-of-fill Inv-loop μ-loop Inv-xmit μ-xmit
-shared-slice-read-word-of-fill c =
-    let at-if2 = c .before in
-    let at-has-ended = at-if2 .before in
+byte-at-requires : tie.Need-byte-at-requires Inv-loop μ-loop Inv-xmit μ-xmit
+byte-at-requires c κs =
+    let at-has-ended = c .before in
     let at-loop-test = at-has-ended .before in
     let at-loop = at-loop-test .before in
     let at-is-last = at-loop .before in
     let f = at-loop .loop .inv in
     let byte = more-bytes f _ (at-is-last .is-last .ensures) (at-loop-test .loop-test .taken)
-    (at-has-ended .has-ended .ensures .1 (at-if2 .if2 .left)) in
-    omega (arith, byte, f .held)
+    (at-has-ended .has-ended .ensures .1 (c .if2 .left)) in
+    has-place f _ (at-is-last .is-last .ensures) (at-loop-test .loop-test .taken) byte
 
 word-of-fill-requires : tie.Need-word-of-fill-requires Inv-loop μ-loop Inv-xmit μ-xmit
 word-of-fill-requires c κs = search needs
@@ -185,7 +174,8 @@ loop-again c =
     (at-has-ended .has-ended .ensures .1 (at-if2 .if2 .left)) in
     let word = same-word f (at-loop .before .is-last .result) (at-loop .before .is-last .ensures)
     (at-loop-test .loop-test .taken) _ in
-    one-filled f (at-loop-test .loop-test .taken) byte (at-word-of-fill .word-of-fill .ensures ∙ word)
+    one-filled f (at-loop-test .loop-test .taken) byte
+    (rw (← at-word-of-fill .before .byte-at .ensures) (at-word-of-fill .word-of-fill .ensures ∙ word))
     (at-put-write .put-write .ensures)
 
 mul-put-read-2 : tie.Need-mul-put-read-2 Inv-loop μ-loop Inv-xmit μ-xmit
@@ -344,9 +334,7 @@ run-spec =
     is-last-requires
     loop-holds
     has-ended-requires
-    cast-word-of-fill
-    add-word-of-fill
-    shared-slice-read-word-of-fill
+    byte-at-requires
     word-of-fill-requires
     put-write-requires
     add-i

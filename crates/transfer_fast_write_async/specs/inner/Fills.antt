@@ -30,5 +30,5 @@ pub record StraightFill (readings : List ℕ) (u e room i len space : ℕ) : Typ
 -- whole rounds, from before byte i to where they lead: before a later byte, or past the last one
 pub record Fills (len at : ℕ) (send-stop : Bool) (bytes readings : List ℕ) (i e u : ℕ) (l : List ℕ)
     (s : Step) (e′ u′ : ℕ) (l′ : List ℕ) : Type 0 where
-  pub reaches : (kinds lengths : List ℕ) (t : Transfer) (b : List ℕ) → t .len ≡ len → t .at ≡ at → t .«send_stop» ≡ send-stop
-      → Reaches (machine kinds lengths bytes) readings (with-point t (WriteAsync (Free i))) e u l b (moved-to kinds lengths t s) e′ u′ l′ b
+  pub reaches : (coded : Bool) (kinds lengths : List ℕ) (t : Transfer) (b : List ℕ) → t .len ≡ len → t .at ≡ at → t .«send_stop» ≡ send-stop
+      → Reaches (machine coded kinds lengths bytes) readings (with-point t (WriteAsync (Free i))) e u l b (moved-to coded kinds lengths t s) e′ u′ l′ b

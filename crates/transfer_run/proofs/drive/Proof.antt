@@ -13,11 +13,11 @@ use Rattle.transfer_run.proofs.drive.Statement.{statement}
 use Rattle.transfer_run.proofs.drive.Tie as tie
 
 abbrev Inv-loop : tie.InvT-loop
-Inv-loop kinds lengths bytes readings log₀ buffer₀ t₀ entries₀ used₀ log buffer t entries used =
-    Reaches (machine kinds lengths bytes) readings t₀ entries₀ used₀ log₀ buffer₀ t entries used log buffer
+Inv-loop coded kinds lengths bytes readings log₀ buffer₀ t₀ entries₀ used₀ log buffer t entries used =
+    Reaches (machine coded kinds lengths bytes) readings t₀ entries₀ used₀ log₀ buffer₀ t entries used log buffer
 
 abbrev μ-loop : tie.MeasureT-loop
-μ-loop kinds lengths bytes readings log₀ buffer₀ t₀ entries₀ used₀ log buffer t entries used =
+μ-loop coded kinds lengths bytes readings log₀ buffer₀ t₀ entries₀ used₀ log buffer t entries used =
     length log₀ / 2 - entries
 
 loop-holds : tie.Need-loop-holds Inv-loop μ-loop
@@ -25,7 +25,7 @@ loop-holds c =
     let at-shared-slice-known2 = c .before .before .before .before in
     let at-start = at-shared-slice-known2 .before .before in
     let args = at-start .args in
-    stays (machine (now (args .kinds)) (now (args .lengths)) (now (args .bytes))) (now (args .readings))
+    stays (machine (args .coded) (now (args .kinds)) (now (args .lengths)) (now (args .bytes))) (now (args .readings))
     (omega arith) (search needs)
 
 step-requires : tie.Need-step-requires Inv-loop μ-loop
@@ -42,14 +42,14 @@ same-length c =
     let at-buffer = c .before .before .before .before in
     let at-step = at-buffer .before .before .before in
     let at-loop = at-step .before .before .before in
-    omega (arith, at-step .step .kept .1 .1 .1 .1 .1 .1 .0, at-loop .loop .inv .long)
+    omega (arith, at-step .step .kept .1 .1 .1 .1 .1 .1 .1 .0, at-loop .loop .inv .long)
 
 same-length-2 : tie.Need-same-length-2 Inv-loop μ-loop
 same-length-2 c =
     let at-buffer = c .before .before .before .before in
     let at-step = at-buffer .before .before .before in
     let at-loop = at-step .before .before .before in
-    omega (arith, at-step .step .kept .1 .1 .1 .1 .1 .1 .1 .1 .0, at-loop .loop .inv .wide)
+    omega (arith, at-step .step .kept .1 .1 .1 .1 .1 .1 .1 .1 .1 .0, at-loop .loop .inv .wide)
 
 returns : tie.Need-returns Inv-loop μ-loop
 returns c =

@@ -35,8 +35,8 @@ keep-requires c κs = search needs
 advance-requires : tie.Need-advance-requires
 advance-requires c κs = search needs
 
-add-t33 : tie.Need-add-t33
-add-t33 c =
+add-t34 : tie.Need-add-t34
+add-t34 c =
     let at-store = c .before .before .before .before in
     let at-v = at-store .before .before .before in
     let at-perform = at-v .before .before .before .before in
@@ -49,11 +49,11 @@ add-t33 c =
     let at-start = at-shared-slice-known3 .before .before .before in
     let args = at-start .args in
     let g = rw (← at-moved .moved .ensures)
-    at (at-ahead-from .ahead-from .ensures .reaches (now (args .kinds)) (now (args .lengths))) in
+    at (at-ahead-from .ahead-from .ensures .reaches (args .coded) (now (args .kinds)) (now (args .lengths))) in
     omega (
       arith,
       has-more g (at-next-access .next-access .ensures) (at-perform .perform .ensures) (at-v .v .given .1),
-      at-start .good .1 .1 .1 .1 .1 .1 .0,
+      at-start .good .1 .1 .1 .1 .1 .1 .1 .0,
     )
 
 same-length : tie.Need-same-length
@@ -75,7 +75,7 @@ returns c =
     let at-start = at-shared-slice-known3 .before .before .before in
     let args = at-start .args in
     let g = rw (← at-moved .moved .ensures)
-    at (at-ahead-from .ahead-from .ensures .reaches (now (args .kinds)) (now (args .lengths))) in
+    at (at-ahead-from .ahead-from .ensures .reaches (args .coded) (now (args .kinds)) (now (args .lengths))) in
     ends g
     (halts g (at-next-access .next-access .ensures) (at-perform .perform .ensures) (c .before .r .given .1))
 
@@ -106,7 +106,7 @@ returns-2 c =
     let at-start = at-shared-slice-known3 .before .before .before in
     let args = at-start .args in
     let g = rw (← at-moved .moved .ensures)
-    at (at-ahead-from .ahead-from .ensures .reaches (now (args .kinds)) (now (args .lengths))) in (
+    at (at-ahead-from .ahead-from .ensures .reaches (args .coded) (now (args .kinds)) (now (args .lengths))) in (
       goes g (at-next-access .next-access .ensures) (at-perform .perform .ensures) (at-v .v .given .1)
           (at-store .store .ensures) (at-keep .keep .ensures) (c .advance .ensures),
       omega (arith, g .up),
@@ -125,7 +125,7 @@ step-spec =
     store-requires
     keep-requires
     advance-requires
-    add-t33
+    add-t34
     same-length
     same-length-2
     returns

@@ -1,5 +1,6 @@
 -- Steps of a transfer: its run comes to a later state, or ends.
 use Prim.Native.Nat.{ℕ, _/_, _-_, _<_}
+use mathlib.Core.Bool.{Bool}
 use mathlib.Core.List.{List}
 use mathlib.Core.Path.{_≡_}
 use lib.ListN.{length}
@@ -11,9 +12,9 @@ use Rattle.transfer_run.specs.declared.Stepped.{Stepped}
 use Rattle.transfer_run.specs.declared.Stepped.the-variants.{On, Stopped}
 
 -- log′ and buffer′ are what is left of log and buffer
-abbrev pub Steps : List ℕ → List ℕ → List ℕ → List ℕ → List ℕ → List ℕ → List ℕ → List ℕ → Transfer → ℕ → ℕ → Stepped → Type 0
-Steps kinds lengths bytes readings log buffer log′ buffer′ t used entries (On t′ used′ entries′) =
-    Reaches (machine kinds lengths bytes) readings t entries used log buffer t′ entries′ used′ log′ buffer′ × (entries < entries′)
-Steps kinds lengths bytes readings log buffer log′ buffer′ t used entries (Stopped y) =
+abbrev pub Steps : Bool → List ℕ → List ℕ → List ℕ → List ℕ → List ℕ → List ℕ → List ℕ → List ℕ → Transfer → ℕ → ℕ → Stepped → Type 0
+Steps coded kinds lengths bytes readings log buffer log′ buffer′ t used entries (On t′ used′ entries′) =
+    Reaches (machine coded kinds lengths bytes) readings t entries used log buffer t′ entries′ used′ log′ buffer′ × (entries < entries′)
+Steps coded kinds lengths bytes readings log buffer log′ buffer′ t used entries (Stopped y) =
     final (y .reply) (y .entries) (y .used) log′ buffer′ tt
-    ≡ ran (machine kinds lengths bytes) readings (length log / 2 - entries) t entries used log buffer
+    ≡ ran (machine coded kinds lengths bytes) readings (length log / 2 - entries) t entries used log buffer

@@ -8,11 +8,14 @@ use Rattle.transfer_steps.proofs.begin.Tie as tie
 add-n : tie.Need-add-n
 add-n c = search needs
 
-kind-at-requires : tie.Need-kind-at-requires
-kind-at-requires c κs = search needs
-
 length-at-requires : tie.Need-length-at-requires
 length-at-requires c κs = search needs
+
+length-for-code-requires : tie.Need-length-for-code-requires
+length-for-code-requires c κs = search needs
+
+kind-at-requires : tie.Need-kind-at-requires
+kind-at-requires c κs = search needs
 
 open-requires : tie.Need-open-requires
 open-requires c κs = search needs
@@ -23,12 +26,14 @@ at-point-requires c κs = search needs
 returns : tie.Need-returns
 unfolding begun
 returns c =
-    let at-kind-at = c .before .before in
-    let at-if1 = at-kind-at .before in
+    let at-kind-at = c .before in
+    let at-length-for-code = at-kind-at .before in
+    let at-length-at = at-length-for-code .before in
     simp (
-      lt-ltb _ _ (at-if1 .if1 .taken),
+      lt-ltb _ _ (at-length-at .before .if1 .taken),
       at-kind-at .kind-at .ensures,
-      c .before .length-at .ensures,
+      at-length-at .length-at .ensures,
+      at-length-for-code .length-for-code .ensures,
       c .«open» .ensures,
     )
 
@@ -41,8 +46,9 @@ begin-spec =
     tie.close
     (tie.spec
     add-n
-    kind-at-requires
     length-at-requires
+    length-for-code-requires
+    kind-at-requires
     open-requires
     at-point-requires
     returns

@@ -21,7 +21,11 @@ returns-2 c = simp (c .before .enum-told .given .1, ne-eqb _ _ (c .if1 .left))
 
 returns-3 : tie.Need-returns-3
 unfolding write-point
-returns-3 c = simp (c .enum-told2 .given .1)
+returns-3 c = simp (c .before .enum-told2 .given .1, c .if2 .taken)
+
+returns-4 : tie.Need-returns-4
+unfolding write-point
+returns-4 c = simp (c .before .enum-told2 .given .1, c .if2 .left)
 
 pub first-of-write-spec : {M : Type 1} → statement M
-first-of-write-spec = tie.close (tie.spec enum-told enum-told-2 returns returns-2 returns-3)
+first-of-write-spec = tie.close (tie.spec enum-told enum-told-2 returns returns-2 returns-3 returns-4)

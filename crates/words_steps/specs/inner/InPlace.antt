@@ -1,7 +1,7 @@
 -- What a step on words leaves.
 use Prim.Native.Nat.{ℕ, _/_, _%_}
 use mathlib.Core.Path.{_≡_}
-use mathlib.Core.Bool.{true, false}
+use mathlib.Core.Bool.{Bool, true, false}
 use mathlib.Core.List.{List}
 use lib.Dec.{eqb}
 use lib.ListN.{getD}
@@ -13,7 +13,7 @@ use Rattle.words.specs.inner.Words.{transfer-in, held-at}
 -- group and row
 pub record InPlace (s : List ℕ) (v : ℕ) (code : ℕ) (e : List ℕ) : Type 0 where
   pub same : eqb code 0 ≡ true → e ≡ s
-  pub moved : eqb code 0 ≡ false → (kinds lengths : List ℕ) → held-at e ≡ advanced-held kinds lengths (held-at s) v
+  pub moved : eqb code 0 ≡ false → (coded : Bool) (kinds lengths : List ℕ) → held-at e ≡ advanced-held coded kinds lengths (held-at s) v
   pub live : eqb code 0 ≡ false → held-at e ≡ Live (transfer-in e)
   pub group : eqb code 0 ≡ false → getD e 0 0 ≡ code / 8
   pub row : eqb code 0 ≡ false → getD e 1 0 ≡ code % 8

@@ -1,4 +1,5 @@
-//! Measures the cost of one access in process, and time against length, short calls apart. Prints three tables in Markdown.
+//! Measures the cost of one access in process, time against length, short calls apart, and what a packet error code costs.
+//! Prints four tables in Markdown.
 //!
 //! Every number is the smallest of several batches, the sides by turns, so that what else the machine does counts least.
 
@@ -18,6 +19,10 @@ const BYTES: usize = 1024;
 const ADDRESS: u16 = 0x55;
 const FORMS: [(&str, u8); 4] = [("blocking_read", 0), ("blocking_write", 1), ("read_async", 4), ("write_async", 5)];
 const LENGTHS: [usize; 9] = [16, 32, 64, 128, 256, 512, 1024, 2048, 4096];
+/// Bit 3 of a form: with a packet error code.
+const CODED: u8 = 8;
+/// What a coded call may take of the plain one.
+const CODED_GOAL: f64 = 1.5;
 /// Up to one fill of the FIFO, and one byte more.
 const SHORT: [usize; 6] = [1, 4, 8, 15, 16, 17];
 /// What a straight line may be missed by.
@@ -49,18 +54,24 @@ fn measure(sides: &mut [&mut dyn FnMut()]) -> Vec<f64> {
     best
 }
 
-/// A master call of a form, with the readings that it takes.
+/// A master call of a form, with the readings that it takes. One with a packet error code takes those of a byte more.
 fn transfer_call(form: u8, length: usize) -> Call {
     let mut call = Call::new(Kind::Master { form, address: ADDRESS });
-    let mut buffer = vec![0; length];
-    let queued = form >= 4;
+    let queued = form & 4 != 0;
+    let more = if form & CODED != 0 { 1 } else { 0 };
     if form % 4 == 0 {
         call.operations = vec![Operation::Read(length)];
-        call.readings = ideal::of_transfer(Transfer::read(queued, ADDRESS, &mut buffer)).0;
+        call.readings = ideal::of_transfer(Transfer::read(queued, ADDRESS, &mut vec![0; length + more])).0;
+        if more == 1 {
+            let mut message = vec![ADDRESS as u8 * 2 + 1];
+            message.resize(1 + length, ideal::BYTE as u8);
+            let last = call.readings.iter().rposition(|reading| *reading == ideal::BYTE).expect("a byte is read");
+            call.readings[last] = master::crc8(0, &message).into();
+        }
     } else {
         call.operations = vec![Operation::Write(length)];
         call.bytes = (0..length).map(|i| i as u8).collect();
-        call.readings = ideal::of_transfer(Transfer::write(queued, ADDRESS, &call.bytes)).0;
+        call.readings = ideal::of_transfer(Transfer::write(queued, ADDRESS, &vec![0; length + more])).0;
     }
     call
 }
@@ -135,7 +146,11 @@ fn whole_call(form: u8, length: usize) -> impl FnMut() {
             0 => master::blocking_read(ADDRESS, read, readings, &mut log),
             1 => master::blocking_write(ADDRESS, write, readings, &mut log),
             4 => master::read_async(ADDRESS, read, readings, &mut log),
-            _ => master::write_async(ADDRESS, write, readings, &mut log),
+            5 => master::write_async(ADDRESS, write, readings, &mut log),
+            8 => master::blocking_read_pec(ADDRESS, read, readings, &mut log),
+            9 => master::blocking_write_pec(ADDRESS, write, readings, &mut log),
+            12 => master::read_async_pec(ADDRESS, read, readings, &mut log),
+            _ => master::write_async_pec(ADDRESS, write, readings, &mut log),
         };
         assert_eq!(black_box(left).answer, Ok(()));
     }
@@ -179,6 +194,18 @@ fn by_length() {
     }
 }
 
+/// A coded call beside the plain one, by turns.
+fn coded() {
+    println!("| call, {BYTES} bytes | plain, ns | with a code, ns | of plain | goal |\n|---|---|---|---|---|");
+    for (name, form) in FORMS {
+        let (mut plain, mut with_code) = (whole_call(form, BYTES), whole_call(form + CODED, BYTES));
+        let times = measure(&mut [&mut plain, &mut with_code]);
+        let share = times[1] / times[0];
+        let verdict = if share <= CODED_GOAL { "met" } else { "missed" };
+        println!("| {name} | {:.0} | {:.0} | {share:.2} | {CODED_GOAL}: {verdict} |", times[0], times[1]);
+    }
+}
+
 fn main() {
     println!("Cost of one access, in process\n");
     one_access();
@@ -186,4 +213,6 @@ fn main() {
     by_length();
     println!("\nTime of a short whole call, in ns\n");
     short();
+    println!("\nTime of a whole call with a packet error code\n");
+    coded();
 }

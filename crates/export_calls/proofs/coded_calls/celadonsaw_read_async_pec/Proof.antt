@@ -1,0 +1,26 @@
+-- `export_calls::coded_calls::celadonsaw_read_async_pec` meets its contract.
+use Rattle.export_calls.proofs.Reported.{reports-buffer}
+use borrow.Author.Needs.{needs}
+use Rattle.export_calls.proofs.coded_calls.celadonsaw_read_async_pec.Statement.{statement}
+use Rattle.export_calls.proofs.coded_calls.celadonsaw_read_async_pec.Tie as tie
+
+read-async-pec-requires : tie.Need-read-async-pec-requires
+read-async-pec-requires c κs = search needs
+
+told-requires : tie.Need-told-requires
+told-requires c κs = search needs
+
+same-length : tie.Need-same-length
+same-length c = search needs
+
+same-length-2 : tie.Need-same-length-2
+same-length-2 c = search needs
+
+returns : tie.Need-returns
+returns c =
+    let at-read = c .before .before .before .before in
+    reports-buffer (c .told .ensures) (at-read .before .read-async-pec .ensures)
+
+pub celadonsaw-read-async-pec-spec : {M : Type 1} → statement M
+celadonsaw-read-async-pec-spec =
+    tie.close (tie.spec read-async-pec-requires told-requires same-length same-length-2 returns)

@@ -1,0 +1,2 @@
+-- Lemmas for the running code in two bytes.
+pub mod Bytes
