@@ -5,8 +5,9 @@
  * apart.
  *
  * The values are not the library's own. "line N" is the call at that line of crates/replay/stdin, with the answer of
- * the original Rust in stdout; "manual" is an example of docs/MANUAL.md, section 7. Two things are added from its
- * section 1: buffers start as UNREAD, not as zeros, and bytes not read stay so; and readings follow that are left over.
+ * the original Rust in stdout; "manual" is an example of docs/MANUAL.md, section 7, or of a rate section 11. Two things
+ * are added from its section 1: buffers start as UNREAD, not as zeros, and bytes not read stay so; and readings follow
+ * that are left over.
  * The slave's state is in no answer: the kept byte is the one that later calls at those lines show, address and general
  * call are what the last reset was given.
  *
@@ -43,6 +44,26 @@ static void clock_calls(void) {
         NOTHING_LOGGED, NO_BYTES);
     CALL("set_config, manual", celadonsaw_set_config(1000000, 32000000, READINGS(1), LOG), 5, 0, 1, 0,
         LOGGED(W(0x6C, 0)), NO_BYTES);
+}
+
+static void expect_rate(const char *call, celadonsaw_rate rate, uint8_t number, uint32_t hz, uint32_t remainder) {
+    begin(call);
+    expect("number", rate.number, number);
+    expect("hz", rate.hz, hz);
+    expect("remainder", rate.remainder, remainder);
+}
+
+static void rate_calls(void) {
+    expect_rate("bus_rate, manual (p)", celadonsaw_bus_rate(400000, 125000000), 0, 399361, 7);
+    expect_rate("bus_rate, manual (q)", celadonsaw_bus_rate(1000000, 125000000), 0, 1000000, 0);
+    expect_rate("bus_rate, manual (q), fast", celadonsaw_bus_rate(1000000, 32499999), 0, 1015624, 31);
+    expect_rate("bus_rate, manual (q), refused", celadonsaw_bus_rate(1000000, 32000000), 5, 0, 0);
+    expect_rate("bus_rate, manual (r)", celadonsaw_bus_rate(1145, 125000000), 0, 1145, 350);
+    expect_rate("bus_rate, manual (r), refused", celadonsaw_bus_rate(1144, 125000000), 4, 0, 0);
+    expect_rate("bus_rate, manual (r), slowest", celadonsaw_bus_rate(1, 109226), 0, 1, 0);
+    expect_rate("bus_rate, manual (s), 1", celadonsaw_bus_rate(1000001, 125000000), 1, 0, 0);
+    expect_rate("bus_rate, manual (s), 2", celadonsaw_bus_rate(0, 125000000), 2, 0, 0);
+    expect_rate("bus_rate, manual (s), 3", celadonsaw_bus_rate(100000, 0x55555556), 3, 0, 0);
 }
 
 /* Logs that a whole call and its steps share. */
@@ -233,6 +254,7 @@ static void step_calls(void) {
 
 int main(void) {
     clock_calls();
+    rate_calls();
     blocking_calls();
     async_calls();
     slave_calls();

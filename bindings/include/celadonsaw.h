@@ -47,6 +47,17 @@ typedef struct {
 celadonsaw_report celadonsaw_set_config(uint32_t frequency, uint32_t clk,
     const uint32_t *readings, size_t readings_len, uint32_t *log, size_t log_len);
 
+/* The rate that the bus gets from a setting, by the counts that celadonsaw_set_config writes for it: clk = hz * (hcnt + lcnt) +
+ * remainder, and the remainder is below hcnt + lcnt. number 0: there is a rate. Otherwise the number, 1 to 5, under which
+ * celadonsaw_set_config refuses the setting; hz and remainder are then 0. It makes no access: it is the rate once
+ * celadonsaw_set_config has accepted the same setting. */
+typedef struct {
+    uint8_t number;
+    uint32_t hz;        /* whole Hz, at least 1 */
+    uint32_t remainder; /* what the division leaves, below hcnt + lcnt */
+} celadonsaw_rate;
+celadonsaw_rate celadonsaw_bus_rate(uint32_t frequency, uint32_t clk);
+
 /* ---- the master's transfers: refusals among 6 to 12 and 18 to 20 (8 of an async write only where it is coded, see below);
  *      docs/MANUAL.md has those of each call ---- */
 

@@ -26,6 +26,15 @@ pub enum Refusal {
     WrongPacketErrorCode,
 }
 
+/// The rate that the bus gets from a clock setting, by its counts: clock = hz × (hcnt + lcnt) + remainder.
+#[derive(Clone, Copy, PartialEq, Eq, Debug)]
+pub struct Rate {
+    /// Whole Hz, at least 1.
+    pub hz: u32,
+    /// What the division leaves, below hcnt + lcnt.
+    pub remainder: u32,
+}
+
 /// What a slave that listens received.
 #[derive(Clone, Copy, PartialEq, Eq, Debug)]
 pub enum Command {

@@ -1,6 +1,7 @@
-//! Clock setup and the eight transfers of the master, in the original driver's names. Each `_async` form goes by polls.
+//! Clock setup and the eight transfers of the master, in the original driver's names, and the rate of the bus.
+//! Each `_async` form goes by polls.
 //! Beside each stands a `_pec` form with a packet error code (SMBus), which is neither in the buffers nor in their lengths.
-use crate::{raw, Left};
+use crate::{raw, Left, Rate, Refusal};
 
 fn done(report: raw::Report) -> Left<()> {
     Left::new(report, |_| ())
@@ -9,6 +10,16 @@ fn done(report: raw::Report) -> Left<()> {
 /// Sets the bus frequency for a clock, both in Hz.
 pub fn set_config(frequency: u32, clock: u32, readings: &[u32], log: &mut [u32]) -> Left<()> {
     done(raw::set_config(frequency, clock, readings, log))
+}
+
+/// The rate that the bus gets from a setting, or the refusal that [`set_config`] answers it with. It makes no access: it is the
+/// rate once `set_config` has accepted the same setting.
+pub fn bus_rate(frequency: u32, clock: u32) -> Result<Rate, Refusal> {
+    let raw::BusRate { number, hz, remainder } = raw::bus_rate(frequency, clock);
+    match number {
+        0 => Ok(Rate { hz, remainder }),
+        number => Err(Refusal::from_number(number, 0)),
+    }
 }
 
 pub fn blocking_read(address: u16, read: &mut [u8], readings: &[u32], log: &mut [u32]) -> Left<()> {

@@ -2,10 +2,12 @@
 //! by the names of parameters and fields, a caller by their places. The clock's accepted call is in `calls.rs`.
 //!
 //! A log is written as `replay` prints it. "Line N" is the call at that line of `crates/replay/stdin`, with the answer
-//! of the original Rust in `stdout`; "manual" is an example of `docs/MANUAL.md`, section 7. By its section 1, readings
-//! may be left over and bytes not read stay as they are.
+//! of the original Rust in `stdout`; "manual" is an example of `docs/MANUAL.md`, section 7, or of a rate section 11. By
+//! its section 1, readings may be left over and bytes not read stay as they are.
 
-use celadonsaw::{entries, master, Access, Command, Entry, Left, Operation, ReadStatus, Refusal, Slave, Transfer};
+use celadonsaw::{
+    entries, master, Access, Command, Entry, Left, Operation, Rate, ReadStatus, Refusal, Slave, Transfer,
+};
 use std::fmt::Debug;
 
 /// A byte that no call has read into a buffer.
@@ -113,6 +115,22 @@ fn refused_clocks() {
     refused(100_000, 0x5555_5556, Refusal::ClockOutOfRange, 0, "");
     refused(1000, 0x0682_ABF8, Refusal::ClockTooFast, 1, "316C00000000");
     refused(1_000_000, 32_000_000, Refusal::ClockTooSlow, 1, "316C00000000");
+}
+
+#[test]
+fn rates_of_the_bus() {
+    // Manual, examples (p) to (s).
+    let rate = |hz, remainder| Ok(Rate { hz, remainder });
+    assert_eq!(master::bus_rate(400_000, 125_000_000), rate(399_361, 7));
+    assert_eq!(master::bus_rate(1_000_000, 125_000_000), rate(1_000_000, 0));
+    assert_eq!(master::bus_rate(1_000_000, 32_499_999), rate(1_015_624, 31));
+    assert_eq!(master::bus_rate(1_000_000, 32_000_000), Err(Refusal::ClockTooSlow));
+    assert_eq!(master::bus_rate(1145, 125_000_000), rate(1145, 350));
+    assert_eq!(master::bus_rate(1144, 125_000_000), Err(Refusal::ClockTooFast));
+    assert_eq!(master::bus_rate(1, 109_226), rate(1, 0));
+    assert_eq!(master::bus_rate(1_000_001, 125_000_000), Err(Refusal::FrequencyTooHigh));
+    assert_eq!(master::bus_rate(0, 125_000_000), Err(Refusal::FrequencyZero));
+    assert_eq!(master::bus_rate(100_000, 0x5555_5556), Err(Refusal::ClockOutOfRange));
 }
 
 #[test]

@@ -10,13 +10,13 @@ use Rattle.regs.specs.declared.access.Entry.the-variants.{Read, Write, Marked}
 use Rattle.regs.specs.Program.{if_then_else_}
 use Rattle.regs.specs.Registers.{TAR, DATA-CMD}
 use Rattle.regs.specs.Fields.{stop, address-field}
-use Rattle.regs.specs.Log.{decode}
+use Rattle.regs.specs.Log.{decode, written-to}
 use Rattle.bus.specs.declared.Direction.{Direction}
 use Rattle.bus.specs.declared.Bus.{Bus}
 use Rattle.bus.specs.declared.Bus.the-variants.{Idle}
 use Rattle.bus.specs.declared.Opening.{Opening}
 use Rattle.bus.specs.declared.Opening.the-variants.{None, Start, Restart}
-use Rattle.bus.specs.Bus.{direction-of, opening-of, opening, byte-sign, closing, after, signs-of, signs, written-to, bus-sequence}
+use Rattle.bus.specs.Bus.{direction-of, opening-of, opening, byte-sign, closing, after, signs-of, signs, bus-sequence}
 use Rattle.answer_lines.specs.Lines.{LOG-WORDS}
 
 opening-few : (o : Opening) (address : ℕ) (d : Direction) → length (opening o address d) ≤ 2

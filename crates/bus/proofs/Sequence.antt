@@ -13,7 +13,7 @@ use Rattle.regs.specs.declared.access.Entry.the-variants.{Read, Write, Marked}
 use Rattle.regs.specs.Program.{if_then_else_}
 use Rattle.regs.specs.Registers.{DATA-CMD}
 use Rattle.regs.specs.Fields.{stop}
-use Rattle.regs.specs.Log.{entry, decode}
+use Rattle.regs.specs.Log.{entry, decode, written-to}
 use Rattle.regs.proofs.RoundTrip.{decode-next, decode-end}
 use Rattle.bus.specs.declared.Direction.{Direction}
 use Rattle.bus.specs.declared.Bus.{Bus}
@@ -24,7 +24,7 @@ use Rattle.bus.specs.declared.Written.{Written}
 use Rattle.bus.specs.declared.Written.the-variants.{Nothing, Value}
 use Rattle.bus.specs.declared.Placed.{Placed}
 use Rattle.bus.specs.Bus.{Sign, direction-of, opening-of, opening, byte-sign, closing, signs-of, signs}
-use Rattle.bus.specs.Bus.{written-to, sign-word, sign-words}
+use Rattle.bus.specs.Bus.{sign-word, sign-words}
 use Rattle.bus.specs.Placed.{written-by, made, moved}
 
 -- ---- the log

@@ -2,13 +2,12 @@
 use Prim.Native.Nat.{ℕ, _+_, _*_}
 use mathlib.Core.Bool.{Bool, true, false, not, _&&_}
 use mathlib.Core.List.{List, [], _∷_, _++_, map}
-use lib.Dec.{eqb}
 use lib.ListN.{getD}
 use Rattle.regs.specs.declared.access.Entry.{Entry}
-use Rattle.regs.specs.declared.access.Entry.the-variants.{Read, Write, Marked}
 use Rattle.regs.specs.Program.{if_then_else_}
 use Rattle.regs.specs.Registers.{TAR, DATA-CMD}
 use Rattle.regs.specs.Fields.{dat, cmd, stop, restart, address-field}
+use Rattle.regs.specs.Log.{written-to}
 use Rattle.bus.specs.declared.Direction.{Direction}
 use Rattle.bus.specs.declared.Direction.the-variants.{Writing, Reading}
 use Rattle.bus.specs.declared.Bus.{Bus}
@@ -69,13 +68,6 @@ signs-of bus address w = opening (opening-of bus w) address (direction-of w) ++ 
 unfoldable pub signs : Bus → ℕ → List ℕ → List Sign
 signs bus address [] = []
 signs bus address (w ∷ words) = signs-of bus address w ++ signs (after w) address words
-
--- the values that a log writes to a register, in order
-unfoldable pub written-to : ℕ → List Entry → List ℕ
-written-to r [] = []
-written-to r (Read s v ∷ log) = written-to r log
-written-to r (Write s v ∷ log) = if eqb s r then v ∷ written-to r log else written-to r log
-written-to r (Marked x ∷ log) = written-to r log
 
 -- the address is what the log writes to TAR, the words those that it writes to DATA_CMD
 abbrev pub bus-sequence : List Entry → List Sign

@@ -14,10 +14,10 @@ ghost use mathlib.Core.List.{[], _∷_};
 ghost use lib.ListN.{length, getD, set};
 ghost use lib.Seq.{sets};
 ghost use Rattle.regs.specs.Fields.{restart, address-field};
-ghost use Rattle.regs.specs.Log.{entry, decode};
+ghost use Rattle.regs.specs.Log.{entry, decode, written-to};
 ghost use Rattle.regs.specs.Registers.{TAR};
 ghost use Rattle.bus.specs.Bus.{direction-of, direction-bit, same, opening-of, opening, byte-sign};
-ghost use Rattle.bus.specs.Bus.{closing, after, signs-of, written-to, bus-sequence, sign-word};
+ghost use Rattle.bus.specs.Bus.{closing, after, signs-of, bus-sequence, sign-word};
 ghost use Rattle.bus.specs.Bus.{sign-words};
 ghost use Rattle.bus.specs.Placed.{written-by, made, moved};
 

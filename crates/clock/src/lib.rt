@@ -1,5 +1,7 @@
-// Clock setup: `set_config` of the Rust with the clock as an argument,
-// as a machine of one register access a step and as a whole call.
+// Clock setup: `set_config` of the Rust with the clock as an argument, as a machine of
+// one register access a step and as a whole call; and the rate that the bus gets from it.
+use clock_setting::Rate;
+use clock_setting::Rated;
 use regs::access::Next;
 use regs::access::Performed;
 use regs::access::Ran;
@@ -13,8 +15,9 @@ ghost use Rattle.regs.specs.inner.Machine.{final, ran};
 ghost use Rattle.regs.specs.Log.{Leaves, expected};
 ghost use Rattle.clock_setting.specs.SetConfig.{set-config, period, lcnt-of, hcnt-of, spklen};
 ghost use Rattle.clock_setting.specs.Datasheet.{hold};
+ghost use Rattle.clock_setting.specs.BusRate.{rated};
 ghost use Rattle.clock.specs.inner.Machine.{fits, reaches, holds, setting, start-of, next-of};
-ghost use Rattle.clock.specs.inner.Machine.{after-disable};
+ghost use Rattle.clock.specs.inner.Machine.{range, after-disable};
 ghost use Rattle.clock.specs.inner.Machine.{advance-of, machine};
 
 // What the registers are set to.
@@ -25,7 +28,13 @@ pub struct Counts {
     pub hold: u16,
 }
 
-// What a frequency and a clock come to.
+// Whether a frequency and a clock are looked at further: what is tested before the first access.
+pub enum Range {
+    Within,
+    Outside(Refusal),
+}
+
+// What a frequency and a clock in range come to.
 pub enum Setting {
     Legal(Counts),
     Illegal(Refusal),
@@ -154,20 +163,29 @@ fn setting_of(frequency: u32, clk: u32) -> Setting
     if_fits(h, l, reached)
 }
 
+fn range_of(frequency: u32, clk: u32) -> Range
+    ensures { λ r. ⌜ r ≡ range frequency clk ⌝ }
+{
+    if 1_000_000 < frequency {
+        return Range::Outside(Refusal::FrequencyTooHigh);
+    }
+    if frequency == 0 {
+        return Range::Outside(Refusal::FrequencyZero);
+    }
+    if 1_431_655_765 < clk {
+        return Range::Outside(Refusal::ClockOutOfRange);
+    }
+    Range::Within
+}
+
 // The first access of clock setup, or its refusal.
 pub fn start(frequency: u32, clk: u32) -> ClockPoint
     ensures { λ r. ⌜ r ≡ start-of frequency clk ⌝ }
 {
-    if 1_000_000 < frequency {
-        return ClockPoint::Finished(Answer::Refused(Refusal::FrequencyTooHigh));
+    match range_of(frequency, clk) {
+        Range::Within => ClockPoint::Disable(setting_of(frequency, clk)),
+        Range::Outside(why) => ClockPoint::Finished(Answer::Refused(why)),
     }
-    if frequency == 0 {
-        return ClockPoint::Finished(Answer::Refused(Refusal::FrequencyZero));
-    }
-    if 1_431_655_765 < clk {
-        return ClockPoint::Finished(Answer::Refused(Refusal::ClockOutOfRange));
-    }
-    ClockPoint::Disable(setting_of(frequency, clk))
 }
 
 // The access that is next, or the answer.
@@ -247,4 +265,25 @@ pub fn set_config(frequency: u32, clk: u32, readings: &[u32], log: &mut [u32]) -
 {
     let p = start(frequency, clk);
     drive(p, readings, log)
+}
+
+// The rate that the bus gets from a setting, by the counts that `set_config` writes for it, or
+// the refusal of `set_config`. No register is needed for it.
+pub fn bus_rate(frequency: u32, clk: u32) -> Rated
+    ensures { λ r. ⌜ r ≡ rated frequency clk ⌝ }
+{
+    match range_of(frequency, clk) {
+        Range::Within => match setting_of(frequency, clk) {
+            Setting::Legal(n) => {
+                let high = n.hcnt;
+                let low = n.lcnt;
+                let periods = high + low;
+                let hz = clk / periods;
+                let remainder = clk % periods;
+                Rated::At(Rate { hz, remainder })
+            }
+            Setting::Illegal(why) => Rated::Refused(why),
+        },
+        Range::Outside(why) => Rated::Refused(why),
+    }
 }

@@ -55,7 +55,7 @@ spiked h l a b c = go (ltb l 16) refl
     go false q = let s : 16 ≤ l = ltb-false l 16 q in omega arith
 
 -- what the rows say of a setting that they pass
-not-zero : (f clk : ℕ) → FirstRow 0 f clk → 0 < f
+pub not-zero : (f clk : ℕ) → FirstRow 0 f clk → 0 < f
 not-zero f clk n = let a : f ≡ 0 → ⊥ = λ e. n (frequency-zero e) in omega (arith, a)
 
 reached : (f clk : ℕ) → FirstRow 0 f clk → 8 ≤ hcnt f clk
@@ -79,7 +79,7 @@ lawful f clk n =
       spike-zero = s .2;
     }
 
-between : (f clk p q : ℕ) → 2 * p * f ≤ 2 * clk + f → 2 * clk < 2 * q * f + f → p ≤ q
+pub between : (f clk p q : ℕ) → 2 * p * f ≤ 2 * clk + f → 2 * clk < 2 * q * f + f → p ≤ q
 between f clk p q a b = let c : p < q + 1 = lt-of-mul-lt-mul-left f (omega arith) in omega arith
 
 held-only : (f clk d : ℕ)
@@ -145,12 +145,16 @@ standard-high-broken = (
   (λ h. omega arith),
 )
 
--- with 18 periods at least the clock is at least 17.5 times the frequency
+-- a high count of 8 at least makes 18 clock periods at least
+pub periods-reach : (f clk : ℕ) → FirstRow 0 f clk → 18 ≤ hcnt f clk + lcnt f clk
+periods-reach f clk n =
+    let s = split (period f clk) in
+    omega (arith, s .0, s .1, s .2, reached f clk n)
+
+-- and so the clock is at least 17.5 times the frequency
 clock-reaches : (f clk : ℕ) → FirstRow 0 f clk → 35 * f ≤ 2 * clk
 clock-reaches f clk n =
-    let s = split (period f clk) in
-    let p : 18 ≤ period f clk = omega (arith, s .0, s .1, s .2, reached f clk n) in
-    omega (arith, nearest f clk (not-zero f clk n) .0, mul-le-mul-left f p)
+    omega (arith, lawful f clk n .period-not-long, mul-le-mul-left f (periods-reach f clk n))
 
 -- below 1 MHz, and at it
 held-by-mode : (f clk ns : ℕ)

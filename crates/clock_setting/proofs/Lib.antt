@@ -1,5 +1,6 @@
--- Every setting against the table of refusals, its counts against the documents, and its accesses against the table of
--- registers.
+-- Every setting against the table of refusals, its counts against the documents, its accesses against the table of
+-- registers, and the rate that it gives the bus.
 pub mod Table
 pub mod Counted
 pub mod Accesses
+pub mod BusRate

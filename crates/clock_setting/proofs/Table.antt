@@ -35,7 +35,7 @@ pub small : (n : ℕ) → ltb 0xffff n ≡ false → as-u16 n ≡ n
 small n q = let h : n ≤ 65535 = ltb-false 65535 n q in omega arith
 
 -- what a setting does whose first row is k
-abbrev does : ℕ → ℕ → ℕ → Behaviour (Unit {0}) Answer
+abbrev pub does : ℕ → ℕ → ℕ → Behaviour (Unit {0}) Answer
 does zero f clk =
     writes ENABLE 0 (writes FS-SCL-HCNT (hcnt f clk) (writes FS-SCL-LCNT (lcnt f clk) (writes FS-SPKLEN (spklen (lcnt f clk))
     (reads SDA-HOLD (λ v. writes SDA-HOLD (set-ic-sda-tx-hold (hold f clk) v) (writes ENABLE 1 (ends Accepted)))))))
@@ -111,7 +111,7 @@ module _ (f clk : ℕ) where
       )
 
   -- a behaviour is that of the first row
-  abbrev First : Behaviour (Unit {0}) Answer → Type 0
+  abbrev pub First : Behaviour (Unit {0}) Answer → Type 0
   First p = (k : ℕ) × (k ≤ 5) × (FirstRow k f clk) × (p ≡ does k f clk)
 
   -- nothing is cut off in the registers
@@ -171,7 +171,7 @@ module _ (f clk : ℕ) where
       (0, omega arith, none g₅ q₆ q₇ (λ e. omega (arith, ltb-false clk 32000001 q₉)) qd, refl))))))))))))))
 
   -- all tests in the driver's order
-  first : (n : ℕ) → First (set-config f clk n ends)
+  pub first : (n : ℕ) → First (set-config f clk n ends)
   unfolding set-config
   first n =
       by-test (ltb 1000000 f)
@@ -188,7 +188,7 @@ module _ (f clk : ℕ) where
 abbrev Room : ℕ → ℕ → ℕ → ℕ → List ℕ → Type 0
 Room k f clk room rs = (length (log-of k f clk rs) ≤ room) × (reads-in (log-of k f clk rs) ≤ length rs)
 
-abbrev of : ℕ → ℕ → ℕ → ℕ → List ℕ → Outcome (Unit {0}) Reply
+abbrev pub of : ℕ → ℕ → ℕ → ℕ → List ℕ → Outcome (Unit {0}) Reply
 of k f clk room rs = outcome Answered LogFull OutOfReadings (does k f clk) room rs [] tt
 
 -- either the row's number and log, or 18 or 19 for want of room
@@ -223,7 +223,7 @@ module _ (f clk : ℕ) where
   ended (suc (suc (suc (suc (suc (suc k)))))) room rs h = absurd (omega arith)
 
   -- a setting has one first row
-  one : (j k : ℕ) → FirstRow j f clk → FirstRow k f clk → j ≡ k
+  pub one : (j k : ℕ) → FirstRow j f clk → FirstRow k f clk → j ≡ k
   one zero zero a b = refl
   one zero (suc k) a b = absurd (a (b .0 .0))
   one (suc j) zero a b = absurd (b (a .0 .0))

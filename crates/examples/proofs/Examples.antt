@@ -3,11 +3,11 @@ use mathlib.Core.Bool.{xor}
 use mathlib.Core.Path.{refl}
 use Rattle.regs.specs.Fields.{set-field}
 use Rattle.regs.specs.Program.{outcome, turns, rounds}
-use Rattle.regs.specs.Log.{Each}
+use Rattle.regs.specs.Log.{Each, written-to}
 use Rattle.regs.specs.Watched.{watched-from}
-use Rattle.bus.specs.Bus.{written-to}
 use Rattle.crc8.specs.Crc8.{after-bit, after-bits, after-byte, crc8-from}
 use Rattle.clock_setting.specs.SetConfig.{set-config, period, lcnt-of, hcnt-of, hold-below-1-mhz, hold-at-1-mhz, spklen}
+use Rattle.clock_setting.specs.BusRate.{rated}
 use Rattle.master.specs.Driver.{setup, tx-fifo-capacity, tx-fifo-full, rx-fifo-len, read-and-clear-abort-reason}
 use Rattle.master.specs.Blocking.{read-blocking-bytes, read-blocking-internal, write-blocking-bytes, write-blocking-internal}
 use Rattle.master.specs.Async.{wait-stop-det, queue-batch, fetch-bytes, read-async-internal, fill, write-async-internal}
@@ -16,16 +16,33 @@ use Rattle.master.specs.Operations.{known, total, listed}
 use Rattle.master.specs.Sequence.{joined, sequence-from}
 use Rattle.master.specs.Coded.{message, with-code, room-of, ends-in-read, each-coded, longer-transfer}
 use Rattle.slave.specs.I2cSlave.{reset, reset-call}
-use Rattle.examples.specs.Rows.{Holds, coded-rows, rows}
+use Rattle.examples.specs.Rows.{Holds, rate-rows, added-rows, rows}
 
--- (k) to (o)
-codes : Each Holds coded-rows
+-- (p) to (s)
+rates : Each Holds rate-rows
+unfolding rated outcome set-config period lcnt-of hcnt-of hold-below-1-mhz hold-at-1-mhz spklen set-field
+rates = (
+  (refl, (refl, refl)),
+  (
+    (refl, (refl, refl)),
+    (
+      (refl, (refl, refl)),
+      (
+        (refl, (refl, refl)),
+        ((refl, (refl, refl)), ((refl, (refl, refl)), ((refl, (refl, refl)), ((refl, (refl, refl)), ((refl, (refl, refl)), ((refl, (refl, refl)), tt)))))),
+      ),
+    ),
+  ),
+)
+
+-- (k) to (o), and what follows
+added : Each Holds added-rows
 unfolding outcome turns rounds written-to setup tx-fifo-capacity tx-fifo-full rx-fifo-len read-and-clear-abort-reason
     read-blocking-bytes read-blocking-internal write-blocking-bytes write-blocking-internal wait-stop-det queue-batch
     fetch-bytes read-async-internal fill
     write-async-internal watched-from after-bit after-bits after-byte crc8-from xor known total listed joined sequence-from
     message with-code room-of ends-in-read each-coded longer-transfer set-field
-codes = (refl, (refl, ((refl, (refl, refl)), ((refl, (refl, refl)), ((refl, (refl, refl)), ((refl, (refl, refl)), ((refl, (refl, refl)), ((refl, (refl, refl)), ((refl, (refl, refl)), tt)))))))))
+added = (refl, (refl, ((refl, (refl, refl)), ((refl, (refl, refl)), ((refl, (refl, refl)), ((refl, (refl, refl)), ((refl, (refl, refl)), ((refl, (refl, refl)), ((refl, (refl, refl)), rates)))))))))
 
 pub examples : Each Holds rows
 unfolding set-field outcome turns rounds written-to set-config period lcnt-of hcnt-of hold-below-1-mhz hold-at-1-mhz
@@ -63,7 +80,7 @@ examples = (
                             λ me. (refl, refl),
                             (
                               λ me. (refl, refl),
-                              ((refl, refl), ((refl, refl), ((refl, (refl, refl)), ((refl, (refl, refl)), codes)))),
+                              ((refl, refl), ((refl, refl), ((refl, (refl, refl)), ((refl, (refl, refl)), added)))),
                             ),
                           ),
                         ),

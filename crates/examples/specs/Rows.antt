@@ -1,4 +1,4 @@
--- The worked examples (a) to (o) of docs/MANUAL.md, as rows of one table, and what it means that a row holds: of
+-- The worked examples (a) to (s) of docs/MANUAL.md, as rows of one table, and what it means that a row holds: of
 -- whole calls, with the registers' offsets as numbers.
 use Prim.Native.Nat.{ℕ}
 use mathlib.Core.Bool.{Bool, true, false}
@@ -8,12 +8,12 @@ use lib.ListN.{replicate}
 use Rattle.regs.specs.Fields.{b2n}
 use Rattle.regs.specs.Program.{Outcome}
 use Rattle.regs.specs.Answers.{number, detail}
-use Rattle.regs.specs.Log.{expected}
+use Rattle.regs.specs.Log.{expected, written-to}
 use Rattle.regs.specs.declared.answers.Reply.{Reply}
 use Rattle.regs.specs.declared.access.Entry.the-variants.{Read, Write, Marked}
-use Rattle.bus.specs.Bus.{written-to}
 use Rattle.crc8.specs.Crc8.{crc8}
 use Rattle.clock_setting.specs.SetConfig.{set-config}
+use Rattle.clock_setting.specs.BusRate.{rated, rate-number, rate-hz, rate-remainder}
 use Rattle.master.specs.Operations.{Mode, blocking, async}
 use Rattle.master.specs.Calls.{Lent, reads-into, writes-from, writes-then-reads, transacts, left-by-call}
 use Rattle.slave.specs.Calls.{resets}
@@ -37,6 +37,8 @@ pub data Row : Type 0 where
   code : List ℕ → ℕ → Row
   -- a master call with a packet error code has this answer on these readings, writes these words and leaves this buffer
   coded : Mode → Lent → List ℕ → ℕ → List ℕ → List ℕ → Row
+  -- the rate of a frequency and a clock: its number, the rate in whole Hz and the remainder
+  rate : ℕ → ℕ → ℕ → ℕ → ℕ → Row
 
 -- a log with room for 50 entries
 abbrev pub some-room : List ℕ
@@ -82,6 +84,24 @@ Holds (coded mode lent readings n ws buffer) =
     (number (called-by true mode 0x50 lent readings .answer) ≡ n)
     × ((written-to 0x10 (called-by true mode 0x50 lent readings .log) ≡ ws)
     × (called-by true mode 0x50 lent readings .buffer ≡ buffer))
+Holds (rate frequency clk n hz remainder) =
+    (rate-number (rated frequency clk) ≡ n)
+    × ((rate-hz (rated frequency clk) ≡ hz) × (rate-remainder (rated frequency clk) ≡ remainder))
+
+-- the rate of the bus
+abbrev pub rate-rows : List Row
+rate-rows =
+    rate 400000 125000000 0 399361 7  -- (p)
+    ∷ rate 1000000 125000000 0 1000000 0  -- (q)
+    ∷ rate 1000000 32499999 0 1015624 31
+    ∷ rate 1000000 32000000 5 0 0
+    ∷ rate 1145 125000000 0 1145 350  -- (r)
+    ∷ rate 1144 125000000 4 0 0
+    ∷ rate 1 109226 0 1 0
+    ∷ rate 1000001 125000000 1 0 0  -- (s)
+    ∷ rate 0 125000000 2 0 0
+    ∷ rate 100000 1431655766 3 0 0
+    ∷ []
 
 -- a read of one byte, then a write of 0xCE
 abbrev pub read-then-write : Lent
@@ -91,9 +111,9 @@ read-then-write = transacts (0 ∷ 1 ∷ []) (1 ∷ 1 ∷ []) (0xCE ∷ []) (0 �
 abbrev pub write-then-read : Lent
 write-then-read = writes-then-reads (1 ∷ []) (0 ∷ [])
 
--- with a packet error code
-abbrev pub coded-rows : List Row
-coded-rows =
+-- of what the Rust lacks: packet error codes, and then the rates
+abbrev pub added-rows : List Row
+added-rows =
     code (0x31 ∷ 0x32 ∷ 0x33 ∷ 0x34 ∷ 0x35 ∷ 0x36 ∷ 0x37 ∷ 0x38 ∷ 0x39 ∷ []) 0xF4  -- (k)
     ∷ code (0xA0 ∷ 0x01 ∷ []) 0x1F  -- (l)
     ∷ coded blocking (writes-from (1 ∷ [])) (0x10 ∷ 0 ∷ 0x10 ∷ 0 ∷ 0x200 ∷ 0 ∷ []) 0 (0x001 ∷ 0x21F ∷ []) []
@@ -106,7 +126,7 @@ coded-rows =
     (0x001 ∷ 0x500 ∷ 0x300 ∷ []) (0x5A ∷ [])
     ∷ coded async write-then-read (0 ∷ 0 ∷ 2 ∷ 0 ∷ 0x5A ∷ 0x18 ∷ 0 ∷ 0x200 ∷ 0 ∷ []) 0
     (0x001 ∷ 0x500 ∷ 0x300 ∷ []) (0x5A ∷ [])
-    ∷ []
+    ∷ rate-rows
 
 abbrev pub rows : List Row
 rows =
@@ -129,4 +149,4 @@ rows =
     ∷ accepted async 0x7F (0 ∷ 1 ∷ 0 ∷ 0xAA ∷ 0 ∷ 0x200 ∷ 0 ∷ [])
     ∷ out-of-range blocking 0x80
     ∷ out-of-range async 0x80
-    ∷ coded-rows
+    ∷ added-rows

@@ -11,11 +11,11 @@ use Rattle.regs.specs.declared.access.Entry.the-variants as entries
 use Rattle.regs.specs.Program.{if_then_else_}
 use Rattle.regs.specs.Registers.{TAR, DATA-CMD}
 use Rattle.regs.specs.Fields.{address-field}
-use Rattle.regs.specs.Log.{entry, decode}
+use Rattle.regs.specs.Log.{entry, decode, written-to}
 use Rattle.bus.specs.declared.Bus.{Bus}
 use Rattle.bus.specs.declared.Bus.the-variants.{Idle}
 use Rattle.bus.specs.declared.Written.the-variants.{Nothing, Value}
-use Rattle.bus.specs.Bus.{signs, written-to, bus-sequence}
+use Rattle.bus.specs.Bus.{signs, bus-sequence}
 use Rattle.bus.specs.Placed.{made, moved}
 use Rattle.answer_frames.specs.declared.Frame.{Frame}
 use Rattle.answer_frames.specs.declared.Frame.the-variants.{Read, Write, Pending, BlockReset, Buffer, Answer, Unknown}

@@ -8,6 +8,7 @@ use lib.ListN.{getD, length-map}
 use Rattle.regs.specs.declared.access.Entry.{Entry}
 use Rattle.regs.specs.Registers.{TAR, DATA-CMD}
 use Rattle.regs.specs.Fields.{stop, address-field}
+use Rattle.regs.specs.Log.{written-to}
 use Rattle.bus.specs.declared.Direction.{Direction}
 use Rattle.bus.specs.declared.Direction.the-variants.{Writing, Reading}
 use Rattle.bus.specs.declared.Bus.{Bus}
@@ -15,7 +16,7 @@ use Rattle.bus.specs.declared.Bus.the-variants.{Idle}
 use Rattle.bus.specs.declared.Opening.{Opening}
 use Rattle.bus.specs.declared.Opening.the-variants.{None, Start, Restart}
 use Rattle.bus.specs.Bus.{Sign, START, RESTART, STOP, address-byte, written, read-slot, direction-bit}
-use Rattle.bus.specs.Bus.{direction-of, opening-of, opening, byte-sign, closing, after, signs, written-to}
+use Rattle.bus.specs.Bus.{direction-of, opening-of, opening, byte-sign, closing, after, signs}
 use Rattle.bus.specs.Bus.{bus-sequence, sign-word, sign-words}
 use Rattle.explain_bus.specs.Line.{run-text, address-text, byte-text, signs-text, sequence-text}
 use Rattle.explain_bus.specs.inner.Words.{kind-text, word-text, words-text, words-line}

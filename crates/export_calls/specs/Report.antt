@@ -9,10 +9,13 @@ use Rattle.regs.specs.Log.{encode, reads-in}
 use Rattle.regs.specs.Answers.{number, detail}
 use Rattle.regs.specs.declared.access.Ran.{Ran}
 use Rattle.regs.specs.declared.answers.Reply.{Reply}
+use Rattle.clock_setting.specs.BusRate.{rate-number, rate-hz, rate-remainder}
+use Rattle.clock_setting.specs.declared.Rated.{Rated}
 use Rattle.slave.specs.I2cSlave.{is-some}
 use Rattle.slave.specs.declared.Pending.{Pending}
 use Rattle.slave.specs.declared.Pending.the-variants.{None, Byte}
 use Rattle.slave.specs.declared.SlaveState.{SlaveState}
+use Rattle.export_calls.specs.declared.BusRate.{BusRate}
 use Rattle.export_calls.specs.declared.Report.{Report}
 use Rattle.export_calls.specs.declared.Slave.{Slave}
 use Rattle.export_calls.specs.declared.SlaveReport.{SlaveReport}
@@ -20,6 +23,10 @@ use Rattle.export_calls.specs.declared.SlaveReport.{SlaveReport}
 -- the reply as its number and detail (docs/MANUAL.md), beside the counts
 abbrev pub report-of : Ran → Report
 report-of ran = record { number = number (ran .reply); detail = detail (ran .reply); entries = ran .entries; used = ran .used }
+
+-- a rate, or a refusal, as its number and its two values
+abbrev pub rate-of : Rated → BusRate
+rate-of r = record { number = rate-number r; hz = rate-hz r; remainder = rate-remainder r }
 
 -- r and the log after it are those of the outcome o: the entries from the log's front on, and the rest of the log as it was
 pub record Reports {S : Type 0} (o : Outcome S Reply) (before after : List ℕ) (r : Report) : Type 0 where

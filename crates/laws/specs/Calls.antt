@@ -1,5 +1,5 @@
--- Every public call of the three drivers as one type: a clock setting, one of the master's eight, plain or with a packet
--- error code, one of the slave's five.
+-- Every public call of the three drivers that is lent readings and a log, as one type: a clock setting, one of the master's
+-- eight, plain or with a packet error code, one of the slave's five.
 use Prim.Native.Nat.{ℕ}
 use mathlib.Core.List.{List, []}
 use Rattle.regs.specs.Program.{Outcome}

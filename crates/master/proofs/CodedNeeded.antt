@@ -9,10 +9,10 @@ use mathlib.Core.List.{List, [], _∷_}
 use Rattle.crc8.specs.Crc8.{after-bit, after-bits, after-byte, crc8-from, crc8}
 use Rattle.regs.specs.Fields.{set-field}
 use Rattle.regs.specs.Left.{bytes-read}
-use Rattle.regs.specs.Log.{Each, decode}
+use Rattle.regs.specs.Log.{Each, decode, written-to}
 use Rattle.regs.specs.Program.{outcome, turns, rounds}
 use Rattle.regs.specs.Watched.{watched-from}
-use Rattle.bus.specs.Bus.{signs, written-to}
+use Rattle.bus.specs.Bus.{signs}
 use Rattle.master.specs.Driver.{setup, tx-fifo-capacity, tx-fifo-full, rx-fifo-len, read-and-clear-abort-reason}
 use Rattle.master.specs.Async.{wait-stop-det, queue-batch, fetch-bytes, read-async-internal, fill, write-async-internal}
 use Rattle.master.specs.Operations.{async}

@@ -18,7 +18,7 @@ use Rattle.regs.specs.Registers.{DATA-CMD}
 use Rattle.regs.specs.Fields.{set-field}
 use Rattle.regs.specs.Program.{Outcome, outcome, turns, rounds, behaviour}
 use Rattle.regs.specs.Watched.{watched-from}
-use Rattle.bus.specs.Bus.{written-to}
+use Rattle.regs.specs.Log.{written-to}
 use Rattle.master.specs.Driver.{setup, tx-fifo-capacity, tx-fifo-full, rx-fifo-len, read-and-clear-abort-reason}
 use Rattle.master.specs.Blocking.{read-blocking-bytes, read-blocking-internal, write-blocking-bytes, write-blocking-internal}
 use Rattle.master.specs.Async.{wait-stop-det, queue-batch, fetch-bytes, read-async-internal, fill, write-async-internal}

@@ -14,7 +14,8 @@ use Rattle.regs.specs.Answers.{number}
 use Rattle.regs.specs.Registers.{DATA-CMD}
 use Rattle.regs.specs.Fields.{set-field}
 use Rattle.regs.specs.Program.{Outcome, outcome, turns, rounds, behaviour}
-use Rattle.bus.specs.Bus.{Sign, START, RESTART, STOP, address-byte, written, read-slot, signs, written-to, bus-sequence}
+use Rattle.regs.specs.Log.{written-to}
+use Rattle.bus.specs.Bus.{Sign, START, RESTART, STOP, address-byte, written, read-slot, signs, bus-sequence}
 use Rattle.master.specs.Driver.{setup, tx-fifo-capacity, tx-fifo-full, rx-fifo-len, read-and-clear-abort-reason}
 use Rattle.master.specs.Blocking.{read-blocking-bytes, read-blocking-internal, write-blocking-bytes, write-blocking-internal}
 use Rattle.master.specs.Async.{wait-stop-det, queue-batch, fetch-bytes, read-async-internal, fill, write-async-internal}

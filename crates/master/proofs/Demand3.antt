@@ -22,11 +22,11 @@ use Rattle.regs.specs.Fields.{address-field, cmd, level}
 use Rattle.regs.specs.Program as P
 use Rattle.regs.specs.Program.{if_then_else_, exit, when, ends, Outcome, outcome}
 use Rattle.regs.specs.Left.{bytes-read}
-use Rattle.regs.specs.Log.{Each, expected}
+use Rattle.regs.specs.Log.{Each, expected, written-to}
 use Rattle.regs.proofs.Tests.{by-test}
 use Rattle.regs.proofs.RoundTrip.{read-back}
 use Rattle.bus.specs.declared.Bus.the-variants.{Idle}
-use Rattle.bus.specs.Bus.{Sign, written-to}
+use Rattle.bus.specs.Bus.{Sign}
 use Rattle.crc8.specs.Crc8.{crc8}
 use Rattle.crc8.proofs.Laws.{is-byte}
 use Rattle.master.specs.Driver.{Driver, setup}

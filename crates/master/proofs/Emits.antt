@@ -23,7 +23,7 @@ use Rattle.regs.specs.Answers.{number}
 use Rattle.regs.specs.Registers.{TAR, DATA-CMD, RXFLR}
 use Rattle.regs.specs.Fields.{level}
 use Rattle.regs.specs.Program.{if_then_else_, Behaviour, ends, reads, writes, marks, stores, asks, keeps, cut, Outcome, outcome}
-use Rattle.bus.specs.Bus.{written-to}
+use Rattle.regs.specs.Log.{written-to}
 use Rattle.master.specs.Demand3.{taken-by, issued-by}
 
 -- what the master does, and what it leaves

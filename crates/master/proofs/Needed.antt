@@ -14,8 +14,8 @@ use Rattle.regs.specs.Answers.{number}
 use Rattle.regs.specs.Registers.{DATA-CMD, RXFLR}
 use Rattle.regs.specs.Fields.{cmd, level}
 use Rattle.regs.specs.Program.{Outcome, outcome, turns, rounds}
-use Rattle.regs.specs.Log.{Each, encode, decode, reads-in}
-use Rattle.bus.specs.Bus.{signs, written-to}
+use Rattle.regs.specs.Log.{Each, encode, decode, reads-in, written-to}
+use Rattle.bus.specs.Bus.{signs}
 use Rattle.master.specs.Driver.{setup, tx-fifo-capacity, tx-fifo-full, rx-fifo-len, read-and-clear-abort-reason}
 use Rattle.master.specs.Blocking.{read-blocking-bytes, read-blocking-internal, write-blocking-bytes, write-blocking-internal}
 use Rattle.master.specs.Async.{wait-stop-det, queue-batch, fetch-bytes, read-async-internal, fill, write-async-internal}

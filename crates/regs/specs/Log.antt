@@ -38,6 +38,13 @@ reads-in (Read r v ∷ es) = suc (reads-in es)
 reads-in (Write r v ∷ es) = reads-in es
 reads-in (Marked x ∷ es) = reads-in es
 
+-- the values that a log writes to a register, in order
+unfoldable pub written-to : ℕ → List Entry → List ℕ
+written-to r [] = []
+written-to r (Read s v ∷ log) = written-to r log
+written-to r (Write s v ∷ log) = if eqb s r then v ∷ written-to r log else written-to r log
+written-to r (Marked x ∷ log) = written-to r log
+
 -- one of the two marks
 abbrev pub legal-mark : ℕ → Bool
 legal-mark x = eqb x PENDING || eqb x BLOCK-RESET

@@ -1,9 +1,10 @@
 //! The original driver and the proved one, in one process, on the same random calls and readings.
 //! `IN_PROCESS_CALLS` and `IN_PROCESS_SEED` say how many and which; without them 20,000 from seed 1.
 
+use celadonsaw::{Rate, master};
 use in_process::{stepped, whole::Rattle};
 use oracle::bus;
-use oracle::call::Call;
+use oracle::call::{Call, Kind};
 use oracle::drivers::Drivers;
 use oracle::random::Calls;
 
@@ -49,4 +50,48 @@ fn transfers_by_steps() {
         assert_eq!(log, recorded(), "call {index}: {call:?}");
         assert!(answer.number == 20 || rust.buffer == buffer, "the buffers differ: call {index}: {call:?}");
     }
+}
+
+/// The one value that the log writes to a register.
+fn written(log: &[bus::Entry], register: u8) -> u64 {
+    let mut values = log.iter().filter_map(|entry| match *entry {
+        bus::Entry::Write(offset, value) if offset == register => Some(value.into()),
+        _ => None,
+    });
+    let value = values.next().expect("a write");
+    assert_eq!(values.next(), None);
+    value
+}
+
+/// The original has no rates: each is held to the counts that the original wrote, and each refusal to the original's. Where the
+/// readings end early the original wrote no whole setting.
+#[test]
+fn rates_of_the_bus() {
+    const FS_SCL_HCNT: u8 = 0x1C;
+    const FS_SCL_LCNT: u8 = 0x20;
+    let mut rust = Drivers::new();
+    let (mut rates, mut refusals) = (0, 0);
+    for (index, call) in calls().enumerate() {
+        let Kind::Clock { frequency, clock } = call.kind else { continue };
+        let answer = rust.run(&call, None);
+        let rate = master::bus_rate(frequency, clock);
+        match answer.number {
+            0 => {
+                let log = recorded();
+                let periods = written(&log, FS_SCL_HCNT) + written(&log, FS_SCL_LCNT);
+                let Rate { hz, remainder } =
+                    rate.unwrap_or_else(|refusal| panic!("{refusal:?}: call {index}: {call:?}"));
+                let (hz, remainder) = (u64::from(hz), u64::from(remainder));
+                assert!(remainder < periods && hz * periods + remainder == clock.into(), "call {index}: {call:?}");
+                rates += 1;
+            }
+            18 | 19 => {}
+            number => {
+                let refusal = rate.map_err(|refusal| refusal.number_and_detail());
+                assert_eq!(refusal, Err((number, 0)), "call {index}: {call:?}");
+                refusals += 1;
+            }
+        }
+    }
+    assert!(rates > 0 && refusals > 0, "{rates} rates and {refusals} refusals");
 }

@@ -27,6 +27,10 @@ pub fn set_config(frequency: u32, clk: u32, readings: &[u32], log: &mut [u32]) -
     call!(celadonsaw_set_config(frequency, clk, ref readings, mut log))
 }
 
+pub fn bus_rate(frequency: u32, clk: u32) -> BusRate {
+    call!(celadonsaw_bus_rate(frequency, clk))
+}
+
 pub fn blocking_read(address: u16, read: &mut [u8], readings: &[u32], log: &mut [u32]) -> Report {
     call!(celadonsaw_blocking_read(address, mut read, ref readings, mut log))
 }

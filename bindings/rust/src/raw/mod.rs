@@ -17,6 +17,14 @@ pub struct Report {
 
 #[repr(C)]
 #[derive(Clone, Copy)]
+pub struct BusRate {
+    pub number: u8,
+    pub hz: u32,
+    pub remainder: u32,
+}
+
+#[repr(C)]
+#[derive(Clone, Copy)]
 pub struct Slave {
     pub has_pending: bool,
     pub pending_byte: u8,
@@ -55,6 +63,7 @@ extern "C" {
         log: *mut u32,
         log_len: usize,
     ) -> Report;
+    fn celadonsaw_bus_rate(frequency: u32, clk: u32) -> BusRate;
     fn celadonsaw_blocking_read(
         address: u16,
         read: *mut u8,

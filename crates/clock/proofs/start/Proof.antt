@@ -1,33 +1,35 @@
--- `clock::start` meets its contract.
-use borrow.Author.Tests.{eq-eqb, le-ltb, lt-ltb, ne-eqb}
+-- `start`: in range, `setting_of`'s point before the first access (`within` is what it requires); else the refusal.
+use Rattle.clock.proofs.Rated.{within}
 use borrow.Author.Needs.{needs}
 use Rattle.clock.proofs.start.Statement.{statement}
 use Rattle.clock.proofs.start.Tie as tie
 
-returns : tie.Need-returns
-returns c = simp (lt-ltb _ _ (c .if1 .taken))
+range-of-requires : tie.Need-range-of-requires
+range-of-requires c κs = search needs
 
-returns-2 : tie.Need-returns-2
-returns-2 c = simp (le-ltb _ _ (c .before .if1 .left), eq-eqb _ _ (c .if2 .taken))
-
-returns-3 : tie.Need-returns-3
-returns-3 c =
-    let at-if1 = c .before .before in
-    simp (le-ltb _ _ (at-if1 .if1 .left), ne-eqb _ _ (c .before .if2 .left), lt-ltb _ _ (c .if3 .taken))
+enum-told : tie.Need-enum-told
+enum-told c = search needs
 
 setting-of-requires : tie.Need-setting-of-requires
-setting-of-requires c κs = search needs
+setting-of-requires c κs =
+    let at-range-of = c .before .before in
+    within _ _ (rw (← at-range-of .range-of .ensures) (c .enum-told .given .1))
 
-returns-4 : tie.Need-returns-4
-returns-4 c =
-    let at-if2 = c .before .before in
-    let at-if1 = at-if2 .before in
-    simp (
-      le-ltb _ _ (at-if1 .if1 .left),
-      ne-eqb _ _ (at-if2 .if2 .left),
-      le-ltb _ _ (c .before .if3 .left),
-      c .setting-of .ensures,
-    )
+enum-known-why : tie.Need-enum-known-why
+enum-known-why c = search needs
+
+returns : tie.Need-returns
+returns c =
+    let at-enum-told = c .before in
+    let at-range-of = at-enum-told .before .before in
+    rw (← at-range-of .range-of .ensures, at-enum-told .enum-told .given .1) (search needs)
+
+returns-2 : tie.Need-returns-2
+returns-2 c =
+    let at-why = c .before in
+    let at-range-of = at-why .before .before in
+    rw (← at-range-of .range-of .ensures, at-why .why .given .1)
 
 pub start-spec : {M : Type 1} → statement M
-start-spec = tie.close (tie.spec returns returns-2 returns-3 setting-of-requires returns-4)
+start-spec =
+    tie.close (tie.spec range-of-requires enum-told setting-of-requires enum-known-why returns returns-2)

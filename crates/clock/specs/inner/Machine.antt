@@ -13,6 +13,8 @@ use Rattle.regs.specs.declared.access.Store.the-variants.{Nothing}
 use Rattle.clock_setting.specs.SetConfig.{spklen}
 use Rattle.clock_setting.specs.Datasheet.{hcnt, lcnt, hold}
 use Rattle.clock.specs.declared.Counts.{Counts}
+use Rattle.clock.specs.declared.Range.{Range}
+use Rattle.clock.specs.declared.Range.the-variants.{Within, Outside}
 use Rattle.clock.specs.declared.Setting.{Setting}
 use Rattle.clock.specs.declared.Setting.the-variants.{Legal, Illegal}
 use Rattle.clock.specs.declared.ClockPoint.{ClockPoint}
@@ -44,11 +46,18 @@ setting frequency clk =
     (reaches (hcnt frequency clk) (lcnt frequency clk)
     (holds frequency clk (lcnt frequency clk) (hold frequency clk) (Legal (counts frequency clk))))
 
+abbrev pub range : ℕ → ℕ → Range
+range frequency clk =
+    if ltb 1000000 frequency then Outside R.FrequencyTooHigh
+    else (if eqb frequency 0 then Outside R.FrequencyZero
+    else (if ltb 1431655765 clk then Outside R.ClockOutOfRange else Within))
+
+abbrev pub start-in : Range → Setting → ClockPoint
+start-in Within s = Disable s
+start-in (Outside why) s = Finished (Refused why)
+
 abbrev pub start-of : ℕ → ℕ → ClockPoint
-start-of frequency clk =
-    if ltb 1000000 frequency then Finished (Refused R.FrequencyTooHigh)
-    else (if eqb frequency 0 then Finished (Refused R.FrequencyZero)
-    else (if ltb 1431655765 clk then Finished (Refused R.ClockOutOfRange) else Disable (setting frequency clk)))
+start-of frequency clk = start-in (range frequency clk) (setting frequency clk)
 
 abbrev pub next-of : ClockPoint → Next
 next-of (Disable s) = N.Write ENABLE 0
