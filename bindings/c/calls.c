@@ -1,13 +1,14 @@
-/* Every function and every field of celadonsaw.h, against values that are written down here.
+/* Every function and every field of celadonsaw.h, against values that are written down here. Coded calls
+ * are in coded.c, the reasons of aborts and their causes in aborts.c.
  *
  * The proofs hold the functions to their contracts by the names of parameters and fields, so two that have changed
  * places are proved too. A caller in C goes by places, and so does this program: neighbours have values that tell them
  * apart.
  *
  * The values are not the library's own. "line N" is the call at that line of crates/replay/stdin, with the answer of
- * the original Rust in stdout; "manual" is an example of docs/MANUAL.md, section 7, or of a rate section 11. Two things
- * are added from its section 1: buffers start as UNREAD, not as zeros, and bytes not read stay so; and readings follow
- * that are left over.
+ * the original Rust in stdout (for bit 3 of a master's abort word it is 23); "manual" is an example of docs/MANUAL.md,
+ * section 7, or of a rate section 11. Two things are added from its section 1: buffers start as UNREAD, not as zeros,
+ * and bytes not read stay so; and readings follow that are left over.
  * The slave's state is in no answer: the kept byte is the one that later calls at those lines show, address and general
  * call are what the last reset was given.
  *
@@ -100,7 +101,7 @@ static void blocking_calls(void) {
     CALL("blocking_read, line 2847", celadonsaw_blocking_read(0xFFFF, buffer, 1, READINGS(0), LOG),
         6, 0xFFFF, 0, 0, NOTHING_LOGGED, NO_BYTES);
     CALL("blocking_write, manual", celadonsaw_blocking_write(0x50, BYTES(0x5A), READINGS(0x10, 8, 0, 0x200, 0), LOG),
-        11, 8, 9, 5, LOG_OF_A_REFUSED_WRITE, NO_BYTES);
+        23, 8, 9, 5, LOG_OF_A_REFUSED_WRITE, NO_BYTES);
     /* A log of 5 words has room for 2 entries. */
     CALL("blocking_write, log full", celadonsaw_blocking_write(0x42, BYTES(0x11), READINGS(0x210), log_words, 5),
         19, 0, 2, 0, LOGGED(W(0x6C, 0), W(0x04, 0x42)), NO_BYTES);
@@ -126,7 +127,7 @@ static void async_calls(void) {
         celadonsaw_read_async(0x50, buffer, 2, READINGS(0, 1, 0, 0, 2, 0, 0xA1, 0xA2, 0, 0x200, 0), LOG),
         0, 0, 19, 11, LOG_OF_AN_ASYNC_READ, BYTES(0xA1, 0xA2));
     CALL("write_async, line 3794", celadonsaw_write_async(0x42, BYTES(0x11, 0x12), READINGS(0, 0x1008, 0, 0), LOG),
-        10, 0, 9, 4, LOG_OF_LINE_3794, NO_BYTES);
+        23, 0x1008, 9, 4, LOG_OF_LINE_3794, NO_BYTES);
     CALL("write_read_async, line 2458",
         celadonsaw_write_read_async(0x42, BYTES(0x11), buffer, 2,
             READINGS(0, 0, 0x10, 0, 0xA1, 0xA2, 0, 0x210, 0), LOG),
@@ -185,6 +186,19 @@ static void slave_calls(void) {
         slave(false, 0, 0x28, true), 0, 0x30002, 13, 8,
         LOGGED(R(0x34, 0x20), R(0x50, 0), W(0x10, 0x11), R(0x50, 0), W(0x10, 0x22), R(0x50, 0), W(0x10, 0x33),
             W(0x30, 0xD0), PENDING, R(0x34, 0x40), R(0x80, 0x01002000), R(0x54, 0), R(0x40, 0)), NO_BYTES);
+    /* Bit 3 is no reason of the slave's own: 11, or leftover bytes where the word has a flush count. */
+    SLAVE("slave_respond_to_read, line 28929",
+        celadonsaw_slave_respond_to_read(slave(false, 0, 0x29, true), BYTES(0x11, 0x12), READINGS(0, 0, 0, 0x40, 8, 0),
+            LOG),
+        slave(false, 0, 0x29, true), 11, 8, 10, 6,
+        LOGGED(R(0x34, 0), R(0x50, 0), W(0x10, 0x11), R(0x50, 0), W(0x10, 0x12), W(0x30, 0xD0), PENDING, R(0x34, 0x40),
+            R(0x80, 8), R(0x54, 0)), NO_BYTES);
+    SLAVE("slave_respond_to_read, line 29043",
+        celadonsaw_slave_respond_to_read(slave(true, 0x44, 0x29, false), BYTES(0x11, 0x12),
+            READINGS(0, 0, 0, 0x40, 0x800008, 0, 0), LOG),
+        slave(true, 0x44, 0x29, false), 0, 0x30001, 11, 7,
+        LOGGED(R(0x34, 0), R(0x50, 0), W(0x10, 0x11), R(0x50, 0), W(0x10, 0x12), W(0x30, 0xD0), PENDING, R(0x34, 0x40),
+            R(0x80, 0x800008), R(0x54, 0), R(0x40, 0)), NO_BYTES);
     SLAVE("slave_respond_till_stop, line 15297",
         celadonsaw_slave_respond_till_stop(slave(true, 0x66, 0x2A, false), 0xEE,
             (const uint32_t[]){0x210, 0, 0}, 3, LOG),
@@ -212,7 +226,7 @@ static void step_calls(void) {
     STEPS("steps, line 4105", CELADONSAW_BLOCKING_READ, 0x42, BYTES(0), LENGTHS(20), NO_BYTES, 20,
         12, 18, LOG_OF_LINE_4105, BYTES(0xA1));
     STEPS("steps, refused write of the manual", CELADONSAW_BLOCKING_WRITE, 0x50, BYTES(1), LENGTHS(1), BYTES(0x5A), 0,
-        11, 8, LOG_OF_A_REFUSED_WRITE, NO_BYTES);
+        23, 8, LOG_OF_A_REFUSED_WRITE, NO_BYTES);
     STEPS("steps, line 1155", CELADONSAW_BLOCKING_WRITE_READ, 0x42, BYTES(1, 0), LENGTHS(1, 2), BYTES(0x11), 2,
         0, 0, LOG_OF_LINE_1155, BYTES(0xA1, 0xA2));
     STEPS("steps, line 5013", CELADONSAW_TRANSACTION, 0x42, BYTES(1, 0, 1, 0), LENGTHS(2, 1, 1, 3),
@@ -220,7 +234,7 @@ static void step_calls(void) {
     STEPS("steps, async read of the manual", CELADONSAW_READ_ASYNC, 0x50, BYTES(0), LENGTHS(2), NO_BYTES, 2,
         0, 0, LOG_OF_AN_ASYNC_READ, BYTES(0xA1, 0xA2));
     STEPS("steps, line 3794", CELADONSAW_WRITE_ASYNC, 0x42, BYTES(1), LENGTHS(2), BYTES(0x11, 0x12), 0,
-        10, 0, LOG_OF_LINE_3794, NO_BYTES);
+        23, 0x1008, LOG_OF_LINE_3794, NO_BYTES);
     STEPS("steps, line 2458", CELADONSAW_WRITE_READ_ASYNC, 0x42, BYTES(1, 0), LENGTHS(1, 2), BYTES(0x11), 2,
         0, 0, LOG_OF_LINE_2458, BYTES(0xA1, 0xA2));
     STEPS("steps, line 5145", CELADONSAW_TRANSACTION_ASYNC, 0x42, BYTES(1, 0, 1, 0), LENGTHS(2, 1, 1, 3),

@@ -34,6 +34,9 @@ extern "C" {
  * 20 over the limits, lengths that do not add up to the buffers, a kind that is neither 0 nor 1; with steps, a form above 7 or
  *    kinds that are not those of the form
  * 22 the packet error code that was fetched is wrong
+ * 23 a data byte was not acknowledged (detail: the raw word)
+ * An abort of the master goes by the first word other than 0 that the call read from TX_ABRT_SOURCE: 9 for bits 0 to 2, then 23
+ * for bit 3, then 10 for bit 12, and 11 for every other word. The slave has no 23.
  * 1, 2, 3, 6, 13, 16, 17 and 20 make no access; 4 and 5 none but ENABLE 0. Bytes not yet read stay as they are.
  * detail of an accepted call: see the slave's calls; 0 of all others. */
 typedef struct {
@@ -58,7 +61,15 @@ typedef struct {
 } celadonsaw_rate;
 celadonsaw_rate celadonsaw_bus_rate(uint32_t frequency, uint32_t clk);
 
-/* ---- the master's transfers: refusals among 6 to 12 and 18 to 20 (8 of an async write only where it is coded, see below);
+/* The causes of an abort in a raw word of TX_ABRT_SOURCE, as 11 and 23 have it as detail: bits 0 to 16. Bits 17 to 31,
+ * reserved bits and the flush count, are no causes. It makes no access. */
+typedef struct {
+    uint8_t count;  /* how many are set, 0 to 17; 0: none */
+    uint8_t lowest; /* the bit of the lowest of them, 0 to 16; 0 where there is none */
+} celadonsaw_abort_causes;
+celadonsaw_abort_causes celadonsaw_causes(uint32_t word);
+
+/* ---- the master's transfers: refusals among 6 to 12, 18 to 20 and 23 (8 of an async write only where it is coded, see below);
  *      docs/MANUAL.md has those of each call ---- */
 
 /* Reads into the buffer. Blocking, and by polls. An empty buffer is 7, after the address is set up. */

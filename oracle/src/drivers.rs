@@ -9,12 +9,13 @@ use embedded_hal_1::i2c::Operation as HalOperation;
 
 use crate::bus::{self, Chooser, Ended};
 use crate::call::{Answer, Call, Kind, Operation};
-use crate::coded::{self, Instead};
 use crate::chip::Peri;
 use crate::chip::interrupt::typelevel::{Binding, I2C0_IRQ, I2C1_IRQ};
 use crate::chip::peripherals::{I2C0, I2C1, PIN_0, PIN_1, PIN_2, PIN_3};
+use crate::coded::{self, Instead};
 use crate::i2c::{self, AbortReason, Async, Blocking, I2c, InterruptHandler};
 use crate::i2c_slave::{self, Command, I2cSlave, ReadStatus};
+use crate::unacknowledged;
 
 const LARGEST_CLOCK: u32 = 1_431_655_765;
 /// Any clock at which the default settings are accepted.
@@ -223,17 +224,21 @@ fn lend<'a>(operations: &[Operation], mut bytes: &'a [u8], mut buffer: &'a mut [
     lent
 }
 
+/// The answer to a master's call whose accesses are in the log.
 fn transferred(result: Result<(), i2c::Error>) -> Answer {
     match result {
         Ok(()) => Answer::ACCEPTED,
         Err(i2c::Error::AddressOutOfRange(address)) => Answer::with(6, address as u32),
         Err(i2c::Error::InvalidReadBufferLength) => Answer::refused(7),
         Err(i2c::Error::InvalidWriteBufferLength) => Answer::refused(8),
-        Err(i2c::Error::Abort(reason)) => aborted(reason),
+        Err(i2c::Error::Abort(reason)) => {
+            bus::with_record(|log, _| unacknowledged::expected_of_master(aborted(reason), log))
+        }
         Err(other) => unreachable!("the driver never returns {other:?}"),
     }
 }
 
+/// The original's reason, of the master and of the slave.
 fn aborted(reason: AbortReason) -> Answer {
     match reason {
         AbortReason::NoAcknowledge => Answer::refused(9),

@@ -21,6 +21,7 @@ mod offsets;
 mod pac;
 pub mod random;
 pub mod replay;
+pub mod unacknowledged;
 pub mod vectors;
 
 // `i2c` and `i2c_slave`, by path.

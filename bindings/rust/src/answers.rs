@@ -24,6 +24,8 @@ pub enum Refusal {
     LogFull,
     OverLimits,
     WrongPacketErrorCode,
+    /// The raw word. Only the master has this one: in a slave's word bit 3 decides nothing.
+    DataNotAcknowledged(u32),
 }
 
 /// The rate that the bus gets from a clock setting, by its counts: clock = hz × (hcnt + lcnt) + remainder.
@@ -33,6 +35,15 @@ pub struct Rate {
     pub hz: u32,
     /// What the division leaves, below hcnt + lcnt.
     pub remainder: u32,
+}
+
+/// The causes of an abort that a raw word has, at least one.
+#[derive(Clone, Copy, PartialEq, Eq, Debug)]
+pub struct Causes {
+    /// How many are set, 1 to 17.
+    pub count: u8,
+    /// The bit of the lowest of them, 0 to 16.
+    pub lowest: u8,
 }
 
 /// What a slave that listens received.
@@ -77,6 +88,7 @@ impl Refusal {
             Refusal::LogFull => (19, 0),
             Refusal::OverLimits => (20, 0),
             Refusal::WrongPacketErrorCode => (22, 0),
+            Refusal::DataNotAcknowledged(word) => (23, word),
         }
     }
 
@@ -104,6 +116,7 @@ impl Refusal {
             19 => Refusal::LogFull,
             20 => Refusal::OverLimits,
             22 => Refusal::WrongPacketErrorCode,
+            23 => Refusal::DataNotAcknowledged(detail),
             _ => unreachable!("number {number}"),
         }
     }

@@ -12,7 +12,7 @@ mod raw;
 mod slave;
 mod transfer;
 
-pub use answers::{Command, Rate, ReadStatus, Refusal};
+pub use answers::{Causes, Command, Rate, ReadStatus, Refusal};
 pub use entries::{entries, Entry};
 pub use slave::Slave;
 pub use transfer::{Access, Operation, Transfer};

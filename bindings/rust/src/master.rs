@@ -1,7 +1,8 @@
-//! Clock setup and the eight transfers of the master, in the original driver's names, and the rate of the bus.
+//! Clock setup and the eight transfers of the master, in the original driver's names, the rate of the bus, and the causes of an
+//! abort.
 //! Each `_async` form goes by polls.
 //! Beside each stands a `_pec` form with a packet error code (SMBus), which is neither in the buffers nor in their lengths.
-use crate::{raw, Left, Rate, Refusal};
+use crate::{raw, Causes, Left, Rate, Refusal};
 
 fn done(report: raw::Report) -> Left<()> {
     Left::new(report, |_| ())
@@ -20,6 +21,13 @@ pub fn bus_rate(frequency: u32, clock: u32) -> Result<Rate, Refusal> {
         0 => Ok(Rate { hz, remainder }),
         number => Err(Refusal::from_number(number, 0)),
     }
+}
+
+/// The causes of an abort in a raw word, as [`Refusal::OtherAbort`] and [`Refusal::DataNotAcknowledged`] have it: those of bits 0
+/// to 16 that are set, or none. Bits 17 to 31, reserved bits and the flush count, are no causes.
+pub fn causes(word: u32) -> Option<Causes> {
+    let raw::AbortCauses { count, lowest } = raw::causes(word);
+    (count != 0).then_some(Causes { count, lowest })
 }
 
 pub fn blocking_read(address: u16, read: &mut [u8], readings: &[u32], log: &mut [u32]) -> Left<()> {

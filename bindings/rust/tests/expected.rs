@@ -2,8 +2,9 @@
 //! by the names of parameters and fields, a caller by their places. The clock's accepted call is in `calls.rs`.
 //!
 //! A log is written as `replay` prints it. "Line N" is the call at that line of `crates/replay/stdin`, with the answer
-//! of the original Rust in `stdout`; "manual" is an example of `docs/MANUAL.md`, section 7, or of a rate section 11. By
-//! its section 1, readings may be left over and bytes not read stay as they are.
+//! of the original Rust in `stdout` (for bit 3 of a master's abort word it is 23); "manual" is an example of
+//! `docs/MANUAL.md`, section 7, or of a rate section 11. By its section 1, readings may be left over and bytes not read
+//! stay as they are.
 
 use celadonsaw::{
     entries, master, Access, Command, Entry, Left, Operation, Rate, ReadStatus, Refusal, Slave, Transfer,
@@ -159,7 +160,7 @@ fn blocking_transfers() {
     check_transfer(
         |_, words, log| master::blocking_write(0x50, &[0x5A], words, log),
         |_| Transfer::write(false, 0x50, &[0x5A]),
-        Err(Refusal::OtherAbort(8)),
+        Err(Refusal::DataNotAcknowledged(8)),
         (9, 5),
         "316C00000000 310400000050 316C00000001 31100000025A 303400000010 308000000008 305400000000 303400000200 \
          306000000000",
@@ -215,7 +216,7 @@ fn async_transfers() {
     check_transfer(
         |_, words, log| master::write_async(0x42, &[0x11, 0x12], words, log),
         |_| Transfer::write(true, 0x42, &[0x11, 0x12]),
-        Err(Refusal::ArbitrationLoss),
+        Err(Refusal::DataNotAcknowledged(0x1008)),
         (9, 4),
         "316C00000000 310400000042 316C00000001 307400000000 311000000011 311000000212 308000001008 305400000000 \
          306000000000",

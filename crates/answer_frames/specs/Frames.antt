@@ -15,12 +15,12 @@ use Rattle.answer_frames.specs.declared.Frame.the-variants.{Read, Write,
 abbrev pub mark-frame : ℕ → Frame
 mark-frame kind = if eqb kind 0x32 then Pending else (if eqb kind 0x33 then BlockReset else Unknown)
 
--- the numbers of answers go to 22
+-- the numbers of answers go to 23
 abbrev pub word-frame : ℕ → ℕ → ℕ → Frame
 word-frame kind byte word =
     if eqb kind 0x30 then Read byte word else
     (if eqb kind 0x31 then Write byte word else
-    (if eqb kind 0x35 then (if ltb byte 23 then Answer byte word else Unknown) else Unknown))
+    (if eqb kind 0x35 then (if ltb byte 24 then Answer byte word else Unknown) else Unknown))
 
 abbrev pub word-of : ℕ → Value → Value → Frame
 word-of kind No word = Unknown

@@ -42,7 +42,7 @@ fn word(kind: u32, byte: u32, word: u32) -> Frame
         return Frame::Write(byte, word);
     }
     if kind == 0x35 {
-        if byte < 23 {
+        if byte < 24 {
             return Frame::Answer(byte, word);
         }
     }

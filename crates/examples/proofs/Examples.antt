@@ -16,9 +16,24 @@ use Rattle.master.specs.Operations.{known, total, listed}
 use Rattle.master.specs.Sequence.{joined, sequence-from}
 use Rattle.master.specs.Coded.{message, with-code, room-of, ends-in-read, each-coded, longer-transfer}
 use Rattle.slave.specs.I2cSlave.{reset, reset-call}
-use Rattle.examples.specs.Rows.{Holds, rate-rows, added-rows, rows}
+use Rattle.regs_causes.specs.Causes.{causes-of, set-from, lowest-from}
+use Rattle.examples.specs.Rows.{Holds, abort-rows, rate-rows, added-rows, rows}
 
--- (p) to (s)
+-- (t) to (v)
+aborts : Each Holds abort-rows
+unfolding outcome turns rounds setup tx-fifo-capacity tx-fifo-full rx-fifo-len read-and-clear-abort-reason
+    write-blocking-bytes write-blocking-internal wait-stop-det queue-batch fetch-bytes read-async-internal fill
+    write-async-internal blocking-write read-async write-async watched-from with-code room-of ends-in-read each-coded
+    longer-transfer set-field causes-of set-from lowest-from
+aborts = (
+  (refl, refl),
+  (
+    (refl, refl),
+    ((refl, refl), ((refl, refl), ((refl, refl), ((refl, refl), ((refl, refl), (refl, (refl, (refl, (refl, (refl, tt)))))))))),
+  ),
+)
+
+-- (p) to (s), and what follows
 rates : Each Holds rate-rows
 unfolding rated outcome set-config period lcnt-of hcnt-of hold-below-1-mhz hold-at-1-mhz spklen set-field
 rates = (
@@ -29,7 +44,7 @@ rates = (
       (refl, (refl, refl)),
       (
         (refl, (refl, refl)),
-        ((refl, (refl, refl)), ((refl, (refl, refl)), ((refl, (refl, refl)), ((refl, (refl, refl)), ((refl, (refl, refl)), ((refl, (refl, refl)), tt)))))),
+        ((refl, (refl, refl)), ((refl, (refl, refl)), ((refl, (refl, refl)), ((refl, (refl, refl)), ((refl, (refl, refl)), ((refl, (refl, refl)), aborts)))))),
       ),
     ),
   ),

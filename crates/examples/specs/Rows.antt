@@ -1,4 +1,4 @@
--- The worked examples (a) to (s) of docs/MANUAL.md, as rows of one table, and what it means that a row holds: of
+-- The worked examples (a) to (v) of docs/MANUAL.md, as rows of one table, and what it means that a row holds: of
 -- whole calls, with the registers' offsets as numbers.
 use Prim.Native.Nat.{ℕ}
 use mathlib.Core.Bool.{Bool, true, false}
@@ -11,6 +11,8 @@ use Rattle.regs.specs.Answers.{number, detail}
 use Rattle.regs.specs.Log.{expected, written-to}
 use Rattle.regs.specs.declared.answers.Reply.{Reply}
 use Rattle.regs.specs.declared.access.Entry.the-variants.{Read, Write, Marked}
+use Rattle.regs_causes.specs.declared.SetCauses.the-variants.{None, Set}
+use Rattle.regs_causes.specs.Causes.{causes-of}
 use Rattle.crc8.specs.Crc8.{crc8}
 use Rattle.clock_setting.specs.SetConfig.{set-config}
 use Rattle.clock_setting.specs.BusRate.{rated, rate-number, rate-hz, rate-remainder}
@@ -39,6 +41,12 @@ pub data Row : Type 0 where
   coded : Mode → Lent → List ℕ → ℕ → List ℕ → List ℕ → Row
   -- the rate of a frequency and a clock: its number, the rate in whole Hz and the remainder
   rate : ℕ → ℕ → ℕ → ℕ → ℕ → Row
+  -- a master call, with a packet error code or without, is refused on these readings with this number and detail
+  aborted : Bool → Mode → Lent → List ℕ → ℕ → ℕ → Row
+  -- a raw abort word has so many causes, and this one is the lowest
+  caused : ℕ → ℕ → ℕ → Row
+  -- or none
+  without-cause : ℕ → Row
 
 -- a log with room for 50 entries
 abbrev pub some-room : List ℕ
@@ -87,6 +95,27 @@ Holds (coded mode lent readings n ws buffer) =
 Holds (rate frequency clk n hz remainder) =
     (rate-number (rated frequency clk) ≡ n)
     × ((rate-hz (rated frequency clk) ≡ hz) × (rate-remainder (rated frequency clk) ≡ remainder))
+Holds (aborted pec mode lent readings n word) =
+    (number (called-by pec mode 0x50 lent readings .answer) ≡ n) × (detail (called-by pec mode 0x50 lent readings .answer) ≡ word)
+Holds (caused word n bit) = causes-of word ≡ Set (record { count = n; lowest = bit })
+Holds (without-cause word) = causes-of word ≡ None
+
+-- a data byte not acknowledged, and the causes of an abort word
+abbrev pub abort-rows : List Row
+abort-rows =
+    aborted false blocking (writes-from (0x5A ∷ [])) (0x10 ∷ 0x8 ∷ 0 ∷ 0x200 ∷ 0 ∷ []) 23 0x8  -- (t)
+    ∷ aborted false blocking (writes-from (0x5A ∷ [])) (0x10 ∷ 0x1008 ∷ 0 ∷ 0x200 ∷ 0 ∷ []) 23 0x1008
+    ∷ aborted false blocking (writes-from (0x5A ∷ [])) (0x10 ∷ 0x1000 ∷ 0 ∷ 0x200 ∷ 0 ∷ []) 10 0
+    ∷ aborted false blocking (writes-from (0x5A ∷ [])) (0x10 ∷ 0x9 ∷ 0 ∷ 0x200 ∷ 0 ∷ []) 9 0
+    ∷ aborted false async (writes-from (0x5A ∷ [])) (0 ∷ 0x8 ∷ 0 ∷ 0 ∷ []) 23 0x8
+    ∷ aborted true async (writes-from (0x5A ∷ [])) (0 ∷ 0x1008 ∷ 0 ∷ 0 ∷ []) 23 0x1008
+    ∷ aborted false async one-byte (0 ∷ 0 ∷ 0x8 ∷ 0 ∷ 0x1 ∷ 0 ∷ 0x200 ∷ 0 ∷ []) 23 0x8  -- (u)
+    ∷ caused 0x8 1 3  -- (v)
+    ∷ caused 0x1008 2 3
+    ∷ caused 0x1FFFF 17 0
+    ∷ without-cause 0x800000
+    ∷ without-cause 0x20000
+    ∷ []
 
 -- the rate of the bus
 abbrev pub rate-rows : List Row
@@ -101,7 +130,7 @@ rate-rows =
     ∷ rate 1000001 125000000 1 0 0  -- (s)
     ∷ rate 0 125000000 2 0 0
     ∷ rate 100000 1431655766 3 0 0
-    ∷ []
+    ∷ abort-rows
 
 -- a read of one byte, then a write of 0xCE
 abbrev pub read-then-write : Lent
@@ -111,7 +140,7 @@ read-then-write = transacts (0 ∷ 1 ∷ []) (1 ∷ 1 ∷ []) (0xCE ∷ []) (0 �
 abbrev pub write-then-read : Lent
 write-then-read = writes-then-reads (1 ∷ []) (0 ∷ [])
 
--- of what the Rust lacks: packet error codes, and then the rates
+-- of what the Rust lacks: packet error codes, then the rates, then data bytes not acknowledged
 abbrev pub added-rows : List Row
 added-rows =
     code (0x31 ∷ 0x32 ∷ 0x33 ∷ 0x34 ∷ 0x35 ∷ 0x36 ∷ 0x37 ∷ 0x38 ∷ 0x39 ∷ []) 0xF4  -- (k)

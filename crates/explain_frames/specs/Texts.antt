@@ -9,12 +9,28 @@ use Rattle.text_hex.specs.Text.{LF, hex2, hex8}
 use Rattle.answer_frames.specs.declared.Frame.{Frame}
 use Rattle.answer_frames.specs.declared.Frame.the-variants.{Read, Write, Pending, BlockReset, Buffer, Answer, Unknown}
 use Rattle.answer_frames.specs.Frames.{frame-of}
+use Rattle.text_tables.specs.Ascii.{ascii}
+use Rattle.text_tables.specs.Decimal.{digits}
 use Rattle.text_tables.specs.Rows.{cell, flags, spaced}
+use Rattle.regs_causes.specs.Causes.{causes-of}
+use Rattle.regs_causes.specs.declared.SetCauses.{SetCauses}
+use Rattle.regs_causes.specs.declared.SetCauses.the-variants.{None, Set}
 use Rattle.explain_frames.specs.Tables.{names, con-flags, command-flags, interrupts-flags, status-flags, aborts-flags, words, answers}
 
--- the fields of a register's value: of STATUS and TX_ABRT_SOURCE
+-- how many causes an abort has, and the name of the lowest
+unfoldable pub counted-text : SetCauses → List ℕ
+counted-text None = ascii "; no cause"
+counted-text (Set c) = ascii "; causes " ++ (digits 2 (c .count) ++ (ascii ", lowest " ++ cell aborts-flags 24 (c .lowest)))
+
+-- the causes of an abort word, behind it: nothing where it is 0
+unfoldable pub causes-text : ℕ → List ℕ
+causes-text w = if eqb w 0 then [] else counted-text (causes-of w)
+
+-- the fields of a register's value: of STATUS, and of TX_ABRT_SOURCE with its causes
 unfoldable pub state-fields : ℕ → ℕ → List ℕ
-state-fields offset w = if eqb offset 0x70 then flags status-flags 7 0 w else (if eqb offset 0x80 then flags aborts-flags 17 0 w else [])
+state-fields offset w =
+    if eqb offset 0x70 then flags status-flags 7 0 w else
+    (if eqb offset 0x80 then flags aborts-flags 17 0 w ++ causes-text w else [])
 
 -- and of CON, DATA_CMD, INTR_MASK and RAW_INTR_STAT
 unfoldable pub fields : ℕ → ℕ → List ℕ
@@ -46,8 +62,12 @@ buffer-text line = cell words 12 4 ++ (spaced (drop 2 line) ++ (LF ∷ []))
 unfoldable pub detail-text : ℕ → List ℕ
 detail-text d = if eqb d 0 then [] else (58 ∷ []) ++ ((32 ∷ []) ++ hex8 d)
 
+-- the detail of the answers 11 and 23 is an abort word, and its causes stand behind it
+unfoldable pub abort-text : ℕ → ℕ → List ℕ
+abort-text n d = if eqb n 11 then causes-text d else (if eqb n 23 then causes-text d else [])
+
 unfoldable pub answer-text : ℕ → ℕ → List ℕ
-answer-text n d = cell words 12 5 ++ (cell answers 40 n ++ (detail-text d ++ (LF ∷ [])))
+answer-text n d = cell words 12 5 ++ (cell answers 40 n ++ (detail-text d ++ (abort-text n d ++ (LF ∷ []))))
 
 -- the text of a frame; a buffer's bytes are read from its line. What is no frame has no text.
 unfoldable pub frame-text : List ℕ → Frame → List ℕ

@@ -1,5 +1,8 @@
 // The replay's answers for people: the text of frames. Each function puts
 // its text at `at` of a lent buffer and returns where the text ends.
+mod aborts; // the causes of an abort word
+
+use aborts::push_abort;
 use answer_frames::Frame;
 use answer_frames::frame_in;
 use text_hex::print::push;
@@ -16,7 +19,7 @@ ghost use Rattle.text_tables.specs.Rows.{cell, flags};
 ghost use Rattle.explain_frames.specs.Tables.{names, interrupts-flags, words, answers};
 ghost use Rattle.explain_frames.specs.Texts.{state-fields, fields, name-row, access-words, access-text};
 ghost use Rattle.explain_frames.specs.Texts.{mark-text, buffer-text, detail-text, answer-text};
-ghost use Rattle.explain_frames.specs.Texts.{frame-text, explained};
+ghost use Rattle.explain_frames.specs.Texts.{abort-text, frame-text, explained};
 
 // The longest line, a buffer of 4,096 bytes, and the room that the text of every line has in.
 pub const LONGEST: usize = 8194;
@@ -91,10 +94,10 @@ fn push_interrupts(out: &mut [u8], at: usize, w: u32) -> usize
     )
 }
 
-// The fields of STATUS and of TX_ABRT_SOURCE.
+// The fields of STATUS, and those of TX_ABRT_SOURCE with its causes.
 fn push_states(out: &mut [u8], at: usize, offset: u32, w: u32) -> usize
-    requires { ⌜ at + 425 ≤ length (now out) ⌝ }
-    ensures { λ r. ⌜ Appended (now (out .entry)) at (state-fields offset w) 425 (now (out .exit)) r ⌝ }
+    requires { ⌜ at + 469 ≤ length (now out) ⌝ }
+    ensures { λ r. ⌜ Appended (now (out .entry)) at (state-fields offset w) 469 (now (out .exit)) r ⌝ }
 {
     if offset == 0x70 {
         return push_flags(
@@ -108,26 +111,15 @@ fn push_states(out: &mut [u8], at: usize, offset: u32, w: u32) -> usize
         );
     }
     if offset == 0x80 {
-        return push_flags(
-            out,
-            at,
-            b"7B_ADDR_NOACK...........10ADDR1_NOACK...........10ADDR2_NOACK...........\
-              TXDATA_NOACK............GCALL_NOACK.............GCALL_READ..............\
-              HS_ACKDET...............SBYTE_ACKDET............HS_NORSTRT..............\
-              SBYTE_NORSTRT...........10B_RD_NORSTRT..........MASTER_DIS..............\
-              ARB_LOST................SLVFLUSH_TXFIFO.........SLV_ARBLOST.............\
-              SLVRD_INTX..............USER_ABRT...............",
-            17,
-            w,
-        );
+        return push_abort(out, at, 17, w);
     }
     at
 }
 
 // The fields of a register's value.
 fn push_fields(out: &mut [u8], at: usize, offset: u32, w: u32) -> usize
-    requires { ⌜ at + 425 ≤ length (now out) ⌝ }
-    ensures { λ r. ⌜ Appended (now (out .entry)) at (fields offset w) 425 (now (out .exit)) r ⌝ }
+    requires { ⌜ at + 469 ≤ length (now out) ⌝ }
+    ensures { λ r. ⌜ Appended (now (out .entry)) at (fields offset w) 469 (now (out .exit)) r ⌝ }
 {
     if offset == 0x00 {
         return push_flags(
@@ -164,7 +156,7 @@ fn push_fields(out: &mut [u8], at: usize, offset: u32, w: u32) -> usize
 pub fn push_words(out: &mut [u8], begin: usize, offset: u32, w: u32) -> usize
     requires { ⌜ (512 ≤ length (now out))
         × (begin < 6) ⌝ }
-    ensures { λ r. ⌜ Appended (now (out .entry)) 0 (access-words begin offset w) 500 (now (out .exit)) r ⌝ }
+    ensures { λ r. ⌜ Appended (now (out .entry)) 0 (access-words begin offset w) 510 (now (out .exit)) r ⌝ }
 {
     let a = push_begin(out, 0, begin);
     let b = push_name(out, a, offset);
@@ -219,7 +211,7 @@ fn push_number(out: &mut [u8], at: usize, n: u32) -> usize
     requires { ⌜ at + 40 ≤ length (now out) ⌝ }
     ensures { λ r. ⌜ Appended (now (out .entry)) at (cell answers 40 n) 40 (now (out .exit)) r ⌝ }
 {
-    if n < 23 {
+    if n < 24 {
         return push_cell(
             out,
             at,
@@ -234,10 +226,24 @@ fn push_number(out: &mut [u8], at: usize, n: u32) -> usize
               16 slave address 0......................17 no place for the pending byte........\
               18 out of readings......................19 log full.............................\
               20 over the limits......................21 malformed frame at line..............\
-              22 wrong packet error code..............",
+              22 wrong packet error code..............23 data byte not acknowledged...........",
             40,
             n as usize,
         );
+    }
+    at
+}
+
+// The causes behind a detail that is an abort word, that of answer 11 or 23.
+fn push_abort_of(out: &mut [u8], at: usize, n: u32, d: u32) -> usize
+    requires { ⌜ at + 44 ≤ length (now out) ⌝ }
+    ensures { λ r. ⌜ Appended (now (out .entry)) at (abort-text n d) 44 (now (out .exit)) r ⌝ }
+{
+    if n == 11 {
+        return push_abort(out, at, 0, d);
+    }
+    if n == 23 {
+        return push_abort(out, at, 0, d);
     }
     at
 }
@@ -249,7 +255,8 @@ fn push_answer(out: &mut [u8], n: u32, d: u32) -> usize
     let a = push_begin(out, 0, 5);
     let b = push_number(out, a, n);
     let c = push_detail(out, b, d);
-    push(out, c, b'\n')
+    let e = push_abort_of(out, c, n, d);
+    push(out, e, b'\n')
 }
 
 fn push_frame(out: &mut [u8], line: &[u8], f: Frame) -> usize

@@ -12,10 +12,10 @@ use Rattle.slave.specs.declared.Pending.{Pending}
 use Rattle.slave.specs.declared.Pending.the-variants.{None, Byte}
 use Rattle.slave.specs.declared.SlaveState.{SlaveState}
 use Rattle.slave_run.specs.declared.Left.{Left}
-use Rattle.export_calls.specs.Report.{report-of, pending-of, byte-of, numbers-of, HandedOn}
-use Rattle.export_calls.specs.Report.{Reports, ReportsBuffer, ReportsState, ReportsAll}
-use Rattle.export_calls.specs.declared.Report.{Report}
-use Rattle.export_calls.specs.declared.SlaveReport.{SlaveReport}
+use Rattle.export_reports.specs.Report.{report-of, pending-of, byte-of, numbers-of, HandedOn}
+use Rattle.export_reports.specs.Report.{Reports, ReportsBuffer, ReportsState, ReportsAll}
+use Rattle.export_reports.specs.declared.Report.{Report}
+use Rattle.export_reports.specs.declared.SlaveReport.{SlaveReport}
 
 module _ {S : Type 0} {o : Outcome S Reply} {before after : List ℕ} {ran : Ran} {r : Report} (e : r ≡ report-of ran) where
   pub reports : Leaves o before after ran → Reports o before after r

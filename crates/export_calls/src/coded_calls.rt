@@ -1,6 +1,6 @@
 // The eight transfers with a packet error code for programs in C or Rust, and that code by itself.
-use super::Report;
-use super::told;
+use export_reports::Report;
+use export_reports::told;
 ghost use mathlib.Core.Path.{_≡_};
 ghost use mathlib.Core.Bool.{true};
 ghost use mathlib.Core.List.{[]};
@@ -8,7 +8,7 @@ ghost use Rattle.crc8.specs.Crc8.{crc8-from};
 ghost use Rattle.regs.specs.Log.{expected};
 ghost use Rattle.master.specs.Operations as Spec;
 ghost use Rattle.master.specs.Calls.{program-by, reads-into, writes-from, writes-then-reads, transacts};
-ghost use Rattle.export_calls.specs.Report.{Reports, ReportsBuffer};
+ghost use Rattle.export_reports.specs.Report.{Reports, ReportsBuffer};
 
 // The code over bytes, from 0 on or from the code of what came before them.
 #[no_mangle]

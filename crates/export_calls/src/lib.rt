@@ -5,66 +5,22 @@
 pub mod coded_calls; // the transfers with a packet error code
 pub mod slave_calls; // the slave's calls, with the state by value
 
-use clock_setting::Rated;
-use regs::access::Ran;
-use regs::answers::Answer;
-use regs::answers::Reply;
+use export_reports::AbortCauses;
+use export_reports::BusRate;
+use export_reports::Report;
+use export_reports::told;
+use export_reports::told_causes;
+use export_reports::told_rate;
 ghost use mathlib.Core.Path.{_≡_};
 ghost use mathlib.Core.List.{[]};
 ghost use lib.ListN.{length};
 ghost use Rattle.regs.specs.Log.{expected};
+ghost use Rattle.regs_causes.specs.Causes.{causes-of};
 ghost use Rattle.clock_setting.specs.SetConfig.{set-config};
 ghost use Rattle.clock_setting.specs.BusRate.{rated};
 ghost use Rattle.master.specs.Operations as Spec;
 ghost use Rattle.master.specs.Transfer.{read-call, write-call, write-read-call, transaction-call};
-ghost use Rattle.export_calls.specs.Report.{report-of, rate-of, Reports, ReportsBuffer};
-
-// What a call answers, the entries that it left in the log and the readings that it used.
-#[repr(C)]
-pub struct Report {
-    pub number: u8,
-    pub detail: u32,
-    pub entries: usize,
-    pub used: usize,
-}
-
-// The rate that the bus gets from a clock setting: number 0, whole Hz and what the division of
-// the clock leaves. Or the number under which the setting is refused; the other two are then 0.
-#[repr(C)]
-pub struct BusRate {
-    pub number: u8,
-    pub hz: u32,
-    pub remainder: u32,
-}
-
-// The slave's state: what lasts from call to call. The byte counts
-// only where one is kept, and is given as 0 where none is.
-#[repr(C)]
-pub struct Slave {
-    pub has_pending: bool,
-    pub pending_byte: u8,
-    pub address: u16,
-    pub general_call: bool,
-}
-
-// What a call of the slave leaves beside the log and the buffer.
-#[repr(C)]
-pub struct SlaveReport {
-    pub state: Slave,
-    pub report: Report,
-}
-
-pub fn told(ran: Ran) -> Report
-    ensures { λ r. ⌜ r ≡ report-of ran ⌝ }
-{
-    let reply = ran.reply;
-    Report {
-        number: regs_numbers::number_of(reply),
-        detail: regs_numbers::detail_of(reply),
-        entries: ran.entries,
-        used: ran.used,
-    }
-}
+ghost use Rattle.export_reports.specs.Report.{rate-of, cause-numbers, Reports, ReportsBuffer};
 
 // Sets the bus frequency for a clock, both in Hz.
 #[no_mangle]
@@ -81,29 +37,20 @@ pub extern "C" fn celadonsaw_set_config(
     told(clock::set_config(frequency, clk, readings, log))
 }
 
-fn told_rate(rated: Rated) -> BusRate
-    ensures { λ r. ⌜ r ≡ rate-of rated ⌝ }
-{
-    match rated {
-        Rated::At(rate) => BusRate {
-            number: 0,
-            hz: rate.hz,
-            remainder: rate.remainder,
-        },
-        Rated::Refused(why) => BusRate {
-            number: regs_numbers::number_of(Reply::Answered(Answer::Refused(why))),
-            hz: 0,
-            remainder: 0,
-        },
-    }
-}
-
 // The rate that the bus gets from a setting, or the refusal of `celadonsaw_set_config`.
 #[no_mangle]
 pub extern "C" fn celadonsaw_bus_rate(frequency: u32, clk: u32) -> BusRate
     ensures { λ r. ⌜ r ≡ rate-of (rated frequency clk) ⌝ }
 {
     told_rate(clock::bus_rate(frequency, clk))
+}
+
+// The causes of an abort in a raw word of TX_ABRT_SOURCE.
+#[no_mangle]
+pub extern "C" fn celadonsaw_causes(word: u32) -> AbortCauses
+    ensures { λ r. ⌜ r ≡ cause-numbers (causes-of word) ⌝ }
+{
+    told_causes(regs_causes::causes(word))
 }
 
 // Reads from the address into the buffer, and ends when it is done.

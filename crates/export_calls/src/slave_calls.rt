@@ -1,59 +1,18 @@
 // The slave's calls for programs in C or Rust. The state goes in and comes out by value, as numbers.
-use super::Slave;
-use super::SlaveReport;
-use super::told;
+use export_reports::Slave;
+use export_reports::SlaveReport;
+use export_reports::numbers;
+use export_reports::state;
+use export_reports::told;
 use i2c_slave::Left;
-use i2c_slave::Pending;
-use i2c_slave::SlaveState;
 ghost use mathlib.Core.Path.{_≡_};
 ghost use mathlib.Core.List.{[]};
 ghost use lib.ListN.{length};
 ghost use Rattle.regs.specs.Log.{expected};
 ghost use Rattle.slave.specs.I2cSlave.{reset-call, listen-call, respond-to-read-call, respond-till-stop-call};
 ghost use Rattle.slave.specs.I2cSlave.{respond-and-fill-call};
-ghost use Rattle.export_calls.specs.Report.{report-of, pending-of, state-of, numbers-of};
-ghost use Rattle.export_calls.specs.Report.{ReportsState, ReportsAll};
-
-fn pending(has: bool, byte: u8) -> Pending
-    ensures { λ r. ⌜ r ≡ pending-of has byte ⌝ }
-{
-    if has {
-        Pending::Byte(byte)
-    } else {
-        Pending::None
-    }
-}
-
-fn state(s: Slave) -> SlaveState
-    ensures { λ r. ⌜ r ≡ state-of s ⌝ }
-{
-    SlaveState {
-        pending_byte: pending(s.has_pending, s.pending_byte),
-        address: s.address,
-        general_call: s.general_call,
-    }
-}
-
-// The state as numbers. Where no byte is kept, its place is 0.
-fn numbers(s: SlaveState) -> Slave
-    ensures { λ r. ⌜ r ≡ numbers-of s ⌝ }
-{
-    let p = s.pending_byte;
-    match p {
-        Pending::Byte(b) => Slave {
-            has_pending: true,
-            pending_byte: b,
-            address: s.address,
-            general_call: s.general_call,
-        },
-        Pending::None => Slave {
-            has_pending: false,
-            pending_byte: 0,
-            address: s.address,
-            general_call: s.general_call,
-        },
-    }
-}
+ghost use Rattle.export_reports.specs.Report.{report-of, state-of, numbers-of};
+ghost use Rattle.export_reports.specs.Report.{ReportsState, ReportsAll};
 
 fn both(l: Left) -> SlaveReport
     ensures { λ r. ⌜ (r .state ≡ numbers-of (l .state))

@@ -52,6 +52,7 @@ refused-number (X.Abort B.NoAcknowledge) = refl
 refused-number (X.Abort B.ArbitrationLoss) = refl
 refused-number (X.Abort (B.TxNotEmpty n)) = refl
 refused-number (X.Abort (B.Other w)) = refl
+refused-number (X.Abort (B.DataNotAcknowledged w)) = refl
 refused-number (X.TxLevelOutOfRange level) = refl
 refused-number X.InvalidResponseBufferLength = refl
 refused-number (X.PartialWrite n) = refl

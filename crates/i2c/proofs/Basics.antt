@@ -95,7 +95,7 @@ module _ (coded : Bool) (kinds lengths bytes : List ℕ) where
       → Agrees m′
       (moved-to coded kinds lengths (with-point t p) (returned (t .len) (t .«send_stop») caller (Failed r))) b
       (k (err r)))
-      → Agrees m (with-point t (Abort A.Source caller)) b (read-and-clear-abort-reason n k)
+      → Agrees m (with-point t (Abort A.Source caller)) b ((read-and-clear-abort-reason reason-of) n k)
   unfolding read-and-clear-abort-reason next-at next-abort step-of step-abort store-at
   reason-agrees t caller m n b k fine failed =
       reads-agree M m refl (λ m₁ l₁ v. by-test (eqb v 0)
@@ -130,7 +130,7 @@ module _ (coded : Bool) (kinds lengths bytes : List ℕ) where
       -- the polls, from the abort's source on
       polling : (had : T.Tried) (m : ℕ) → m ≤ top → m ≤ n → (b : List ℕ)
           → Agrees m (with-point t (Abort A.Source (C.Stop had))) b
-          (wait-on tt (λ _. stop-poll (as-tried had)) (modify INTR-MASK (λ w. set-m-tx-abrt (set-m-stop-det w))) n
+          (wait-on tt (λ _. stop-poll reason-of (as-tried had)) (modify INTR-MASK (λ w. set-m-tx-abrt (set-m-stop-det w))) n
           (λ second. reads CLR-STOP-DET (λ v. k (both (as-tried had) second))))
       unfolding next-at next-stop step-of step-stop store-at returned stop-returned mask-for poll-point
       polling Fine m h l b =
@@ -158,14 +158,14 @@ module _ (coded : Bool) (kinds lengths bytes : List ℕ) where
           → m ≤ n
           → (p : Point) (b : List ℕ)
           → Agrees m (moved-to coded kinds lengths (with-point t p) (wait-stop stop Fine)) b
-          (wait-stop-det (ok tt) stop n k)
+          (wait-stop-det reason-of (ok tt) stop n k)
       unfolding wait-stop wait-stop-det
       wanted true m h l p b = polling Fine m h l b
       wanted false m h l p b = good m h p b
 
       pub stops-agree : (had : T.Tried) (m : ℕ) → m ≤ top → m ≤ n → (p : Point) (b : List ℕ)
           → Agrees m (moved-to coded kinds lengths (with-point t p) (wait-stop (t .«send_stop») had)) b
-          (wait-stop-det (as-tried had) (t .«send_stop») n k)
+          (wait-stop-det reason-of (as-tried had) (t .«send_stop») n k)
       unfolding wait-stop wait-stop-det
       stops-agree Fine m h l p b = wanted (t .«send_stop») m h l p b
       stops-agree (Failed r) m h l p b = polling (Failed r) m h l b

@@ -10,7 +10,7 @@ use Rattle.regs.specs.Bounds.{Bounded}
 use Rattle.regs.specs.inner.Watched.{watched-machine}
 use Rattle.regs.specs.declared.answers.Answer.{Answer}
 use Rattle.regs.proofs.Bounded.{bounded-by}
-use Rattle.master.specs.Driver.{Driver}
+use Rattle.master.specs.Driver.{Driver, reason-of}
 use Rattle.master.specs.Operations as Spec
 use Rattle.master.specs.Operations.{operations-of, fits, lists}
 use Rattle.master.specs.Transfer.{within}
@@ -59,7 +59,7 @@ by-machine mode address (transacts kinds lengths bytes buffer) =
 
 -- with a packet error code the machine is watched, as its transfer is
 coded-machine : (mode : Mode) (address : ℕ) (lent : Lent)
-    → Bounded (within (within-limits lent) (coded (mode-of mode) address (arguments lent)))
+    → Bounded (within (within-limits lent) (coded reason-of (mode-of mode) address (arguments lent)))
 coded-machine mode address lent =
     bounded-within (within-limits lent) _
     (λ q.
@@ -74,7 +74,7 @@ in-mode Spec.blocking address lent = by-machine Blocking address lent
 in-mode Spec.async address lent = by-machine Async address lent
 
 coded-in-mode : (mode : Spec.Mode) (address : ℕ) (lent : Lent)
-    → Bounded (within (within-limits lent) (coded mode address (arguments lent)))
+    → Bounded (within (within-limits lent) (coded reason-of mode address (arguments lent)))
 coded-in-mode Spec.blocking address lent = coded-machine Blocking address lent
 coded-in-mode Spec.async address lent = coded-machine Async address lent
 

@@ -13,6 +13,7 @@ use borrow.Author.Tests.{eq-eqb, ne-eqb}
 use Rattle.regs.specs.Program.{ends}
 use Rattle.regs.specs.declared.answers.Answer.the-variants.{Accepted}
 use Rattle.regs.proofs.Refine.{ends-agree}
+use Rattle.master.specs.Driver.{reason-of}
 use Rattle.master.specs.Async.{is-empty}
 use Rattle.master.specs.Operations.{operations-of, listed, lists, fits, total, known, READ, WRITE}
 use Rattle.master.specs.Calls.{Lent, reads-into, writes-from, writes-then-reads, transacts, arguments, within-limits, bytes-in}
@@ -34,7 +35,7 @@ module _ (restart : Bool) (address : ℕ) where
       → ((p : Point) → Left kinds lengths bytes restart (with-point (started mode restart address kinds) p) kinds lengths)
       → (m n : ℕ) → m ≤ n → (p : Point) (b : List ℕ)
       → Agrees true kinds lengths bytes m (begun true kinds lengths (with-point (started mode restart address kinds) p)) b
-      (each-coded (mode-of mode) restart 0 (with-code 0 (listed kinds lengths bytes)) n (λ _. ends Accepted))
+      (each-coded reason-of (mode-of mode) restart 0 (with-code 0 (listed kinds lengths bytes)) n (λ _. ends Accepted))
   coded-next mode kinds lengths bytes left m n h p b =
       coded-agree kinds lengths bytes restart n kinds lengths (with-point (started mode restart address kinds) p) m h b (left p)
 
@@ -42,7 +43,7 @@ module _ (restart : Bool) (address : ℕ) where
       → ((p : Point) → Left kinds lengths bytes restart (with-point (started mode restart address kinds) p) kinds lengths)
       → (m n : ℕ) → m ≤ n → (b : List ℕ)
       → Agrees true kinds lengths bytes m (started mode restart address kinds) b
-      (longer-transfer (mode-of mode) restart address (with-code 0 (listed kinds lengths bytes)) n ends)
+      (longer-transfer reason-of (mode-of mode) restart address (with-code 0 (listed kinds lengths bytes)) n ends)
   unfolding longer-transfer first-point listed with-code each-coded next-at
   from-left Blocking kinds lengths bytes left m n h b =
       set-up true kinds lengths bytes (started Blocking restart address kinds) m n b _
@@ -62,7 +63,7 @@ pub coded-transfer : (mode : Mode) (restart : Bool) (address : ℕ) (kinds lengt
     → lists kinds lengths (length bytes) room ≡ true
     → (m n : ℕ) → m ≤ n → (b : List ℕ)
     → Agrees true kinds lengths bytes m (started mode restart address kinds) b
-    (longer-transfer (mode-of mode) restart address (with-code 0 (listed kinds lengths bytes)) n ends)
+    (longer-transfer reason-of (mode-of mode) restart address (with-code 0 (listed kinds lengths bytes)) n ends)
 coded-transfer mode restart address kinds lengths bytes room q =
     from-left restart address mode kinds lengths bytes (λ p. all-left mode restart address kinds lengths bytes room q p)
 
@@ -82,7 +83,7 @@ both-lists w r q = rw (add-zero w, add-zero r, eq-eqb w w refl, eq-eqb r r refl,
 pub coded-lent : (mode : Mode) (address : ℕ) (l : Lent) → within-limits l ≡ true
     → (m n : ℕ) → m ≤ n → (b : List ℕ)
     → Agrees true (kinds-in l) (lengths-in l) (bytes-in l) m (started mode (restart-in l) address (kinds-in l)) b
-    (longer-transfer (mode-of mode) (restarts (arguments l)) address (with-code 0 (operations-of (arguments l))) n ends)
+    (longer-transfer reason-of (mode-of mode) (restarts (arguments l)) address (with-code 0 (operations-of (arguments l))) n ends)
 unfolding listed
 coded-lent mode address (reads-into buffer) q =
     coded-transfer mode true address (READ ∷ []) (length buffer ∷ []) [] (length buffer) (read-lists (length buffer) q)

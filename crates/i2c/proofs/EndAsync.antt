@@ -4,7 +4,7 @@ use mathlib.Core.Bool.{Bool}
 use mathlib.Core.List.{List}
 use Rattle.regs.specs.Program.{Behaviour}
 use Rattle.regs.specs.declared.answers.Answer.{Answer}
-use Rattle.master.specs.Driver.{Tried, try}
+use Rattle.master.specs.Driver.{Tried, try, reason-of}
 use Rattle.master.specs.Async.{wait-stop-det}
 use Rattle.transfer.specs.inner.Points.{with-point}
 use Rattle.transfer.specs.inner.Machine.{wait-stop, moved-to, begun}
@@ -15,7 +15,7 @@ use Rattle.i2c.proofs.Basics.{Agrees, as-tried, fails, stops-agree}
 
 -- what follows the loop of a transfer, over what follows the operation
 abbrev pub ending : Transfer → (Unit {0} → Behaviour (Unit {0}) Answer) → ℕ → Tried (Unit {0}) → Behaviour (Unit {0}) Answer
-ending t k n r = wait-stop-det r (t .«send_stop») n (λ r. try r n k)
+ending t k n r = wait-stop-det reason-of r (t .«send_stop») n (λ r. try r n k)
 
 module _ (coded : Bool) (kinds lengths bytes : List ℕ) where
   -- the next operation, or the transfer's end, does what k does

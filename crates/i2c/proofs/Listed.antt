@@ -14,6 +14,7 @@ use Rattle.regs.proofs.Tests.{by-test}
 use Rattle.regs.specs.Program.{ends}
 use Rattle.regs.specs.declared.answers.Answer.the-variants.{Accepted}
 use Rattle.regs.proofs.Refine.{ends-agree}
+use Rattle.master.specs.Driver.{reason-of}
 use Rattle.master.specs.Async.{is-empty}
 use Rattle.master.specs.Operations.{listed, total, known, READ, WRITE}
 use Rattle.master.specs.Transfer.{each-operation}
@@ -135,7 +136,7 @@ module _ (kinds lengths bytes : List ℕ) where
   -- from the next operation to the end
   pub operations-agree : (n : ℕ) (ks ls : List ℕ) (t : Transfer) (m : ℕ) → m ≤ n → (b : List ℕ) → Left kinds lengths bytes false t ks ls
       → Agrees false kinds lengths bytes m (begun false kinds lengths t) b
-      (each-operation (mode-of (t .mode)) (t .reads) (listed ks ls (drop (t .writes) bytes)) n
+      (each-operation reason-of (mode-of (t .mode)) (t .reads) (listed ks ls (drop (t .writes) bytes)) n
       (λ _. ends Accepted))
   unfolding begun length-for listed each-operation opened opened-write opened-read next-at
   operations-agree n [] ls t m h b left = rw
@@ -164,7 +165,7 @@ module _ (kinds lengths bytes : List ℕ) where
       (λ m₁ h₁ p b. subst (λ (xs : List ℕ). Agrees false kinds lengths bytes m₁
       (begun false kinds lengths (with-point
       (opened-write false t (t .begun + 1) len (is-empty (listed ks ls (drop len (drop (t .writes) bytes))))) p)) b
-      (each-operation (mode-of (t .mode)) (t .reads) (listed ks ls xs) n (λ _. ends Accepted))) same
+      (each-operation reason-of (mode-of (t .mode)) (t .reads) (listed ks ls xs) n (λ _. ends Accepted))) same
       (operations-agree n ks ls (with-point
       (opened-write false t (t .begun + 1) len (is-empty (listed ks ls (drop len (drop (t .writes) bytes))))) p) m₁ h₁
       b (write-left false false t kind len ks ls (is-empty (listed ks ls (drop len (drop (t .writes) bytes)))) p left
@@ -186,7 +187,7 @@ module _ (kinds lengths bytes : List ℕ) where
       (λ m₁ h₁ p b. subst (λ (x : ℕ). Agrees false kinds lengths bytes m₁
       (begun false kinds lengths (with-point
       (opened-read t (t .begun + 1) len (is-empty (listed ks ls (drop (t .writes) bytes)))) p)) b
-      (each-operation (mode-of (t .mode)) x (listed ks ls (drop (t .writes) bytes)) n (λ _. ends Accepted)))
+      (each-operation reason-of (mode-of (t .mode)) x (listed ks ls (drop (t .writes) bytes)) n (λ _. ends Accepted)))
       same
       (operations-agree n ks ls (with-point
       (opened-read t (t .begun + 1) len (is-empty (listed ks ls (drop (t .writes) bytes)))) p) m₁ h₁ b

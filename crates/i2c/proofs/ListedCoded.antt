@@ -18,6 +18,7 @@ use Rattle.regs.specs.declared.answers.Answer.{Answer}
 use Rattle.regs.specs.declared.answers.Answer.the-variants.{Accepted, Refused}
 use Rattle.regs.specs.declared.answers.Refusal.the-variants.{InvalidWriteBufferLength}
 use Rattle.regs.proofs.Refine.{ends-agree}
+use Rattle.master.specs.Driver.{reason-of}
 use Rattle.master.specs.Async.{is-empty}
 use Rattle.master.specs.Operations.{Operation, writes, reads, listed, total, READ, WRITE}
 use Rattle.master.specs.Transfer.{write-internal}
@@ -73,7 +74,7 @@ module _ (kinds lengths bytes : List ℕ) where
     coded-write : (mode : Mode) (ws : List ℕ) → Held bytes t ws 0
         → Agrees true kinds lengths bytes m (with-point t (write-point true mode (t .len))) b
         (when (is-empty ws) (exit (Refused InvalidWriteBufferLength)) n
-        (λ _. write-internal (mode-of mode) ws (t .«send_stop») n k))
+        (λ _. write-internal reason-of (mode-of mode) ws (t .«send_stop») n k))
     coded-write mode [] held = empty-write mode (eq-eqb (t .len) 0 (omega (arith, held .sum)))
     coded-write mode (x ∷ ws) held = write-agrees true kinds lengths bytes t k top n m h l good b mode (x ∷ ws) held
         (ne-eqb (t .len) 0 (λ z. omega (arith, held .sum)))
@@ -92,7 +93,7 @@ module _ (kinds lengths bytes : List ℕ) where
 
   module _ (restart : Bool) (n : ℕ) where
     abbrev From : Transfer → ℕ → List (Operation ℕ) → Behaviour (Unit {0}) Answer
-    From t offset os = each-coded (mode-of (t .mode)) restart offset os n (λ _. ends Accepted)
+    From t offset os = each-coded reason-of (mode-of (t .mode)) restart offset os n (λ _. ends Accepted)
 
     -- none is left
     at-end : (t : Transfer) (m : ℕ) (b : List ℕ) (p : Point) → length kinds ≤ t .begun

@@ -15,7 +15,7 @@ use Rattle.regs.specs.Fields.{dat, level, set-m-rx-full, set-m-tx-abrt}
 use Rattle.regs.specs.Steps.{Machine}
 use Rattle.regs.specs.declared.answers.Answer.{Answer}
 use Rattle.regs.proofs.Refine.{ends-agree, reads-agree, writes-agree, stores-agree, loop-agree}
-use Rattle.master.specs.Driver.{tx-fifo-capacity, rx-fifo-len}
+use Rattle.master.specs.Driver.{tx-fifo-capacity, rx-fifo-len, reason-of}
 use Rattle.master.specs.Async.{Counts, queue-batch, batch-poll, fetch-bytes, take-batch, read-round, read-async-internal}
 use Rattle.transfer.specs.inner.Points.{with-point}
 use Rattle.transfer.specs.inner.Machine.{next-at, next-round, next-wait, queue-word, store-at, store-round, step-of}
@@ -105,7 +105,7 @@ module _ (coded : Bool) (kinds lengths bytes : List ℕ) (t : Transfer) (n : ℕ
         → remaining ≤ t .len
         → Back m next
         → Does m (with-point t (ReadAsync (Q.Level (counted remaining queue batch)))) b
-        (wait-on tt (λ _. batch-poll batch)
+        (wait-on tt (λ _. batch-poll reason-of batch)
         (put RX-TL (batch - 1) >> modify INTR-MASK (λ w. set-m-tx-abrt (set-m-rx-full w))) n
         (λ res. take-batch (t .at) (t .len) remaining queue res n (λ w. by-turn w next (ending t k n))))
     unfolding rx-fifo-len next-at next-round next-wait store-at store-round step-of step-round step-wait returned mask-for poll-point
@@ -134,7 +134,7 @@ module _ (coded : Bool) (kinds lengths bytes : List ℕ) (t : Transfer) (n : ℕ
         → remaining ≤ t .len
         → Back m next
         → Does m (turn-at p remaining queue batch) b
-        (read-round (t .at) (t .len) (t .restart) (t .«send_stop»)
+        (read-round reason-of (t .at) (t .len) (t .restart) (t .«send_stop»)
         (record { remaining = remaining; remaining-queue = queue }) n (λ w. by-turn w next (ending t k n)))
     unfolding tx-fifo-capacity next-turn next-at next-round store-at store-round step-of step-round places batch-step
     turns zero queue batch m h l p b next some back = ending-agrees coded kinds lengths bytes t k top n good Fine m h l p b
@@ -156,12 +156,12 @@ module _ (coded : Bool) (kinds lengths bytes : List ℕ) where
       → Good coded kinds lengths bytes t k top
       → (b : List ℕ)
       → Agrees coded kinds lengths bytes m (with-point t (some-read Async (t .len))) b
-      (read-async-internal (t .at) (t .len) (t .restart) (t .«send_stop») n k)
+      (read-async-internal reason-of (t .at) (t .len) (t .restart) (t .«send_stop») n k)
   unfolding read-async-internal some-read next-turn
   read-async-agrees t k top n m h l some fits good b =
       let z : eqb (t .len) 0 ≡ false = ne-eqb (t .len) 0 (λ e. omega arith) in
       let whole : Agrees coded kinds lengths bytes m (turn-at coded kinds lengths bytes t n (t .point) (t .len) (t .len) 0) b
-      (rounds n n (read-round (t .at) (t .len) (t .restart) (t .«send_stop»))
+      (rounds n n (read-round reason-of (t .at) (t .len) (t .restart) (t .«send_stop»))
       (record { remaining = t .len; remaining-queue = t .len }) (ending t k n))
       = loop-agree (M coded kinds lengths bytes) n _ _
       (λ (x : Counts) (y : Point × ℕ). turn-at coded kinds lengths bytes t n (y .0) (x .remaining)

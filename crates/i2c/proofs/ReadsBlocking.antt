@@ -13,7 +13,7 @@ use Rattle.regs.specs.Registers.{DATA-CMD}
 use Rattle.regs.specs.Fields.{level, dat}
 use Rattle.regs.specs.declared.answers.Answer.{Answer}
 use Rattle.regs.proofs.Refine.{ends-agree, reads-agree, writes-agree, stores-agree, loop-agree}
-use Rattle.master.specs.Driver.{tx-fifo-full, tx-fifo-capacity, rx-fifo-len, while-test, read-and-clear-abort-reason, try}
+use Rattle.master.specs.Driver.{tx-fifo-full, tx-fifo-capacity, rx-fifo-len, while-test, read-and-clear-abort-reason, try, reason-of}
 use Rattle.master.specs.Blocking.{read-blocking-bytes, read-blocking-internal}
 use Rattle.transfer.specs.inner.Points.{with-point}
 use Rattle.transfer.specs.inner.Machine.{next-at, next-read, read-word, store-at, store-read, step-of, step-read}
@@ -33,7 +33,7 @@ module _ (coded : Bool) (kinds lengths bytes : List ℕ) (t : Transfer) (small :
     → Agrees coded kinds lengths bytes m (begun coded kinds lengths (with-point t p)) b (k tt))
   where
     abbrev bytes-from : ℕ → ℕ → Behaviour (Unit {0}) Answer
-    bytes-from i left = read-blocking-bytes (t .at) (t .len - 1) (t .restart) (t .«send_stop») i left n k
+    bytes-from i left = read-blocking-bytes reason-of (t .at) (t .len - 1) (t .restart) (t .«send_stop») i left n k
 
     -- the wait for byte i, which is then taken and stored
     waits : (left i m : ℕ) → m ≤ top → m ≤ n → (b : List ℕ) → i < t .len
@@ -44,7 +44,7 @@ module _ (coded : Bool) (kinds lengths bytes : List ℕ) (t : Transfer) (small :
         (moved-to coded kinds lengths (with-point t p) (after-byte (t .len) i (ReadBlocking (R.Room (i + 1))))) b
         (bytes-from (i + 1) left))
         → Agrees coded kinds lengths bytes m (with-point t (ReadBlocking (R.Level i))) b
-        (while-test (rx-fifo-len >>= (λ rxfifo. return (eqb rxfifo 0))) (read-and-clear-abort-reason >>= try) n
+        (while-test (rx-fifo-len >>= (λ rxfifo. return (eqb rxfifo 0))) ((read-and-clear-abort-reason reason-of) >>= try) n
         (λ _. reads DATA-CMD (λ byte. stores (t .at + i) (dat byte) (bytes-from (i + 1) left))))
     unfolding rx-fifo-len next-at next-read store-at store-read step-of step-read level-step returned
     waits left i m h l b lt next =
@@ -98,7 +98,7 @@ module _ (coded : Bool) (kinds lengths bytes : List ℕ) (t : Transfer) (small :
 
     pub read-blocking-agrees : (m : ℕ) → m ≤ top → m ≤ n → 0 < t .len → (b : List ℕ)
         → Agrees coded kinds lengths bytes m (with-point t (ReadBlocking (R.Room 0))) b
-        (read-blocking-internal (t .at) (t .len) (t .restart) (t .«send_stop») n k)
+        (read-blocking-internal reason-of (t .at) (t .len) (t .restart) (t .«send_stop») n k)
     unfolding read-blocking-internal
     read-blocking-agrees m h l pos b =
         let e : suc (t .len - 1) ≡ t .len = omega arith in

@@ -15,6 +15,7 @@ use Rattle.regs.specs.declared.answers.Reply.{Reply}
 use Rattle.regs.specs.declared.answers.Reply.the-variants.{Answered}
 use Rattle.regs.proofs.Stepped.{stepped-as}
 use Rattle.regs.proofs.Tests.{by-test}
+use Rattle.master.specs.Driver.{reason-of}
 use Rattle.master.specs.Calls.{Lent, reads-into, writes-from, writes-then-reads, transacts, program-of, within-limits}
 use Rattle.master.specs.Calls.{program-by, arguments, buffer-in, bytes-in}
 use Rattle.master.specs.Coded.{with-code, longer-transfer, restarts, coded}
@@ -73,10 +74,10 @@ pub coded-within : (mode : Mode) (address : ℕ) (l : Lent) → within-limits l 
     → (log readings : List ℕ)
     → stepped (summed-machine (running address) (machine true (kinds-in l) (lengths-in l) (bytes-in l))) (length log / 2)
     (fresh, started mode (restart-in l) address (kinds-in l)) readings (buffer-in l)
-    ≡ expected (coded (mode-of mode) address (arguments l)) log readings (buffer-in l) tt
+    ≡ expected (coded reason-of (mode-of mode) address (arguments l)) log readings (buffer-in l) tt
 coded-within mode address l q small log readings =
     running-stepped address (machine true (kinds-in l) (lengths-in l) (bytes-in l))
-    (longer-transfer (mode-of mode) (restarts (arguments l)) address (with-code 0 (operations-of (arguments l))))
+    (longer-transfer reason-of (mode-of mode) (restarts (arguments l)) address (with-code 0 (operations-of (arguments l))))
     (λ me. started mode (restart-in l) address (kinds-in l)) (λ me b m n h. coded-lent mode address l q m n h b)
     log readings (buffer-in l) tt
     ∙ runs (mode-of mode) address (arguments l) log readings (buffer-in l)
@@ -85,7 +86,7 @@ coded-within mode address l q small log readings =
 coded-call : (mode : Spec.Mode) (address : ℕ) (l : Lent) → within-limits l ≡ true → Each (λ b. b < 256) (bytes-in l)
     → (log readings : List ℕ)
     → from-start true mode address l (length log / 2) readings
-    ≡ expected (coded mode address (arguments l)) log readings (buffer-in l) tt
+    ≡ expected (coded reason-of mode address (arguments l)) log readings (buffer-in l) tt
 coded-call blocking address l q small log readings = coded-within Blocking address l q small log readings
 coded-call async address l q small log readings = coded-within Async address l q small log readings
 

@@ -13,7 +13,7 @@ use Rattle.regs.specs.Program.{Behaviour, ends}
 use Rattle.regs.specs.declared.answers.Answer.{Answer}
 use Rattle.regs.specs.declared.answers.Answer.the-variants.{Accepted}
 use Rattle.regs.proofs.Refine.{ends-agree}
-use Rattle.master.specs.Driver.{setup}
+use Rattle.master.specs.Driver.{setup, reason-of}
 use Rattle.master.specs.Async.{is-empty}
 use Rattle.master.specs.Operations.{read, write, write-read, transaction, listed}
 use Rattle.master.specs.Transfer.{blocking-read, read-async, blocking-write, write-async, blocking-write-read}
@@ -51,7 +51,7 @@ module _ (mode : Mode) (address len : ℕ) (fits : len ≤ MOST) (bytes : List �
   read-next : (m n : ℕ) → m ≤ n → (p : Point) (b : List ℕ)
       → Agrees false (0 ∷ []) (len ∷ []) bytes m
       (begun false (0 ∷ []) (len ∷ []) (with-point (started mode true address (0 ∷ [])) p)) b
-      (read-internal (mode-of mode) 0 len true true n (λ _. ends Accepted))
+      (read-internal reason-of (mode-of mode) 0 len true true n (λ _. ends Accepted))
   unfolding begun length-for opened opened-read next-at
   read-next m n h p b =
       read-agrees false (0 ∷ []) (len ∷ []) bytes
@@ -60,7 +60,8 @@ module _ (mode : Mode) (address len : ℕ) (fits : len ≤ MOST) (bytes : List �
       (λ m₁ h₁ p b. ends-agree (M false (0 ∷ []) (len ∷ []) bytes) m₁ refl) b mode true refl (omega arith)
 
 pub read-transfer : (mode : Mode) (address len : ℕ) → len ≤ MOST → (bytes : List ℕ) (m n : ℕ) → m ≤ n → (b : List ℕ)
-    → Agrees false (0 ∷ []) (len ∷ []) bytes m (started mode true address (0 ∷ [])) b (transfer (mode-of mode) address (read len) n ends)
+    → Agrees false (0 ∷ []) (len ∷ []) bytes m (started mode true address (0 ∷ [])) b
+    (transfer reason-of (mode-of mode) address (read len) n ends)
 unfolding blocking-read read-async first-point
 read-transfer Blocking address len fits bytes m n h b =
     set-up false (0 ∷ []) (len ∷ []) bytes (started Blocking true address (0 ∷ [])) m n b _
@@ -81,7 +82,7 @@ module _ (mode : Mode) (address : ℕ) (bytes : List ℕ) where
   write-next : (m n : ℕ) → m ≤ n → (p : Point) (b : List ℕ)
       → Agrees false (1 ∷ []) (length bytes ∷ []) bytes m
       (begun false (1 ∷ []) (length bytes ∷ []) (with-point (started mode true address (1 ∷ [])) p)) b
-      (write-internal (mode-of mode) bytes true n (λ _. ends Accepted))
+      (write-internal reason-of (mode-of mode) bytes true n (λ _. ends Accepted))
   unfolding begun length-for opened opened-write next-at
   write-next m n h p b =
       write-agrees false (1 ∷ []) (length bytes ∷ []) bytes
@@ -92,7 +93,7 @@ module _ (mode : Mode) (address : ℕ) (bytes : List ℕ) where
 
 pub write-transfer : (mode : Mode) (address : ℕ) (bytes : List ℕ) (m n : ℕ) → m ≤ n → (b : List ℕ)
     → Agrees false (1 ∷ []) (length bytes ∷ []) bytes m (started mode true address (1 ∷ [])) b
-    (transfer (mode-of mode) address (write bytes) n ends)
+    (transfer reason-of (mode-of mode) address (write bytes) n ends)
 unfolding blocking-write write-async first-point
 write-transfer Blocking address bytes m n h b =
     set-up false (1 ∷ []) (length bytes ∷ []) bytes (started Blocking true address (1 ∷ [])) m n b _
@@ -111,7 +112,7 @@ module _ (mode : Mode) (address : ℕ) (bytes : List ℕ) (len : ℕ) (fits : le
 
   then-read : (p q : Point) (m n : ℕ) → m ≤ n → (b : List ℕ)
       → Agrees false (1 ∷ 0 ∷ []) both-lengths bytes m (begun false (1 ∷ 0 ∷ []) both-lengths (with-point (first p) q)) b
-      (read-internal (mode-of mode) 0 len true true n (λ _. ends Accepted))
+      (read-internal reason-of (mode-of mode) 0 len true true n (λ _. ends Accepted))
   unfolding begun length-for opened opened-write opened-read next-at
   then-read p q m n h b =
       read-agrees false (1 ∷ 0 ∷ []) both-lengths bytes (opened-read (with-point (first p) q) 2 len true) (λ _. ends Accepted) n n m h h
@@ -119,7 +120,8 @@ module _ (mode : Mode) (address : ℕ) (bytes : List ℕ) (len : ℕ) (fits : le
 
   write-first : (m n : ℕ) → m ≤ n → (p : Point) (b : List ℕ)
       → Agrees false (1 ∷ 0 ∷ []) both-lengths bytes m (begun false (1 ∷ 0 ∷ []) both-lengths (with-point (started mode true address (1 ∷ 0 ∷ [])) p)) b
-      (write-internal (mode-of mode) bytes false n (λ _. read-internal (mode-of mode) 0 len true true n (λ _. ends Accepted)))
+      (write-internal reason-of (mode-of mode) bytes false n
+      (λ _. read-internal reason-of (mode-of mode) 0 len true true n (λ _. ends Accepted)))
   unfolding begun length-for opened opened-write
   write-first m n h p b =
       write-agrees false (1 ∷ 0 ∷ []) both-lengths bytes (first p) _ n n m h h
@@ -128,7 +130,7 @@ module _ (mode : Mode) (address : ℕ) (bytes : List ℕ) (len : ℕ) (fits : le
 
 pub write-read-transfer : (mode : Mode) (address : ℕ) (bytes : List ℕ) (len : ℕ) → len ≤ MOST → (m n : ℕ) → m ≤ n → (b : List ℕ)
     → Agrees false (1 ∷ 0 ∷ []) (length bytes ∷ len ∷ []) bytes m (started mode true address (1 ∷ 0 ∷ [])) b
-    (transfer (mode-of mode) address (write-read bytes len) n ends)
+    (transfer reason-of (mode-of mode) address (write-read bytes len) n ends)
 unfolding blocking-write-read write-read-async first-point
 write-read-transfer Blocking address bytes len fits m n h b =
     set-up false (1 ∷ 0 ∷ []) (length bytes ∷ len ∷ []) bytes (started Blocking true address (1 ∷ 0 ∷ [])) m n b _
@@ -143,7 +145,7 @@ module _ (mode : Mode) (address : ℕ) (kinds lengths bytes : List ℕ)
   where
     listed-next : (m n : ℕ) → m ≤ n → (p : Point) (b : List ℕ)
         → Agrees false kinds lengths bytes m (begun false kinds lengths (with-point (started mode false address kinds) p)) b
-        (each-operation (mode-of mode) 0 (listed kinds lengths bytes) n (λ _. ends Accepted))
+        (each-operation reason-of (mode-of mode) 0 (listed kinds lengths bytes) n (λ _. ends Accepted))
     listed-next m n h p b = operations-agree kinds lengths bytes n kinds lengths
         (with-point (started mode false address kinds) p) m h b (left p)
 
@@ -153,7 +155,7 @@ pub transaction-transfer : (mode : Mode) (address : ℕ) (kinds lengths bytes : 
     → m ≤ n
     → (b : List ℕ)
     → Agrees false kinds lengths bytes m (started mode false address kinds) b
-    (transfer (mode-of mode) address (transaction (listed kinds lengths bytes)) n ends)
+    (transfer reason-of (mode-of mode) address (transaction (listed kinds lengths bytes)) n ends)
 unfolding blocking-transaction transaction-async first-point listed each-operation next-at
 transaction-transfer Blocking address kinds lengths bytes left m n h b =
     set-up false kinds lengths bytes (started Blocking false address kinds) m n b _

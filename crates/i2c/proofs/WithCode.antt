@@ -19,7 +19,7 @@ use Rattle.regs.specs.declared.answers.Answer.{Answer}
 use Rattle.regs.specs.declared.answers.Reply.{Reply}
 use Rattle.regs.proofs.Refine.{leaves-buffer, length-encode}
 use Rattle.regs.proofs.Tests.{by-test}
-use Rattle.master.specs.Driver.{Driver}
+use Rattle.master.specs.Driver.{Driver, reason-of}
 use Rattle.master.specs.Transfer.{within}
 use Rattle.master.specs.Operations.{Operation, writes, reads, listed, lists, total, known, fits, READ, WRITE}
 use Rattle.master.specs.Coded.{code-of, with-code, room-of, coder, longer-transfer}
@@ -104,7 +104,7 @@ module _ (mode : Mode) (restart : Bool) (address : ℕ) (kinds lengths write rea
     os = listed kinds lengths write
 
     abbrev longer-one : Driver Answer
-    longer-one = longer-transfer (mode-of mode) restart address (with-code 0 os)
+    longer-one = longer-transfer reason-of (mode-of mode) restart address (with-code 0 os)
 
     -- the run with 0 for the code
     left : LeavesBuffer (expected longer-one before readings b₀ tt) before log b from
@@ -168,12 +168,12 @@ both-lists m n q = rw (add-zero m, add-zero n, eq-eqb m m refl, eq-eqb n n refl,
 pub form-leaves : (mode : Mode) (restart : Bool) (address : ℕ) {os os′ : List (Operation ℕ)} (readings before b₀ : List ℕ)
     {after b : List ℕ} {r : Ran} (limits : Bool) → limits ≡ true → os ≡ os′
     → LeavesBuffer
-    (expected (watched (coder address os) (longer-transfer (mode-of mode) restart address (with-code 0 os)))
+    (expected (watched (coder address os) (longer-transfer reason-of (mode-of mode) restart address (with-code 0 os)))
     before readings b₀ tt)
     before after b r
     → LeavesBuffer
     (expected (within limits
-    (watched (coder address os′) (longer-transfer (mode-of mode) restart address (with-code 0 os′))))
+    (watched (coder address os′) (longer-transfer reason-of (mode-of mode) restart address (with-code 0 os′))))
     before readings b₀ tt)
     before after b r
 form-leaves mode restart address readings before b₀ limits q e h = rw (q, ← e) h

@@ -14,7 +14,7 @@ use Rattle.regs.specs.Fields.{level, set-m-tx-empty, set-m-tx-abrt}
 use Rattle.regs.specs.Steps.{Machine}
 use Rattle.regs.specs.declared.answers.Answer.{Answer}
 use Rattle.regs.proofs.Refine.{ends-agree, reads-agree, writes-agree, loop-agree}
-use Rattle.master.specs.Driver.{tx-fifo-capacity, tx-fifo-full}
+use Rattle.master.specs.Driver.{tx-fifo-capacity, tx-fifo-full, reason-of}
 use Rattle.master.specs.Async.{fill, space-poll, go-on, wait-space, write-async-internal}
 use Rattle.transfer.specs.inner.Points.{with-point}
 use Rattle.transfer.specs.inner.Machine.{next-at, next-fill, next-wait, fill-word, store-at, step-of, step-fill}
@@ -56,7 +56,7 @@ module _ (coded : Bool) (kinds lengths bytes : List ℕ) (t : Transfer) (k : Uni
       → Held bytes t rest i
       → Back m next
       → Does m (with-point t (Abort A.Source (C.Space i))) b
-      (wait-on tt (λ _. space-poll) (put TX-TL 1 >> modify INTR-MASK (λ w. set-m-tx-abrt (set-m-tx-empty w))) n
+      (wait-on tt (λ _. (space-poll reason-of)) (put TX-TL 1 >> modify INTR-MASK (λ w. set-m-tx-abrt (set-m-tx-empty w))) n
       (λ res. by-turn (go-on rest res) next (ending t k n)))
   unfolding tx-fifo-full tx-fifo-capacity next-at next-fill next-wait store-at step-of step-fill step-wait places
       full-step returned mask-for poll-point
@@ -80,7 +80,7 @@ module _ (coded : Bool) (kinds lengths bytes : List ℕ) (t : Transfer) (k : Uni
       → Held bytes t rest i
       → Back m next
       → Does m (moved-to coded kinds lengths (with-point t p) (filling (t .len) (t .«send_stop») i space)) b
-      (fill (t .«send_stop») space rest n (λ f. wait-space f n (λ w. by-turn w next (ending t k n))))
+      (fill (t .«send_stop») space rest n (λ f. wait-space reason-of f n (λ w. by-turn w next (ending t k n))))
   unfolding fill filling next-at next-fill fill-word store-at step-of step-fill after-index
   fills zero rest i m h l p b next held back = waits i rest m h l b next held back
   fills (suc space) [] i m h l p b next held back =
@@ -105,7 +105,7 @@ module _ (coded : Bool) (kinds lengths bytes : List ℕ) where
       → Held bytes t ws 0
       → Good coded kinds lengths bytes t k top
       → (b : List ℕ)
-      → Agrees coded kinds lengths bytes m (with-point t (WriteAsync (F.Free 0))) b (write-async-internal ws (t .«send_stop») n k)
+      → Agrees coded kinds lengths bytes m (with-point t (WriteAsync (F.Free 0))) b (write-async-internal reason-of ws (t .«send_stop») n k)
   unfolding write-async-internal tx-fifo-capacity next-at next-fill store-at step-of step-fill places free-step
   write-async-agrees t k top n m h l ws held good b =
       loop-agree (M coded kinds lengths bytes) n _ _ (λ rest i. with-point t (WriteAsync (F.Free i))) (λ rest i. Held bytes t rest i) n m l

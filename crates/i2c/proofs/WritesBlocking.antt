@@ -13,7 +13,7 @@ use Rattle.regs.specs.Registers.{RAW-INTR-STAT, CLR-STOP-DET}
 use Rattle.regs.specs.Fields.{tx-empty, stop-det}
 use Rattle.regs.specs.declared.answers.Answer.{Answer}
 use Rattle.regs.proofs.Refine.{reads-agree, writes-agree, while-agree}
-use Rattle.master.specs.Driver.{Tried, is-err, try}
+use Rattle.master.specs.Driver.{Tried, is-err, try, reason-of}
 use Rattle.master.specs.Blocking.{write-blocking-bytes, write-blocking-internal}
 use Rattle.transfer.specs.inner.Points.{with-point}
 use Rattle.transfer.specs.inner.Machine.{next-at, next-write, next-stop, write-word, store-at, step-of, step-write}
@@ -50,7 +50,7 @@ module _ (coded : Bool) (kinds lengths bytes : List ℕ) (t : Transfer) (k : Uni
     → Agrees coded kinds lengths bytes m (begun coded kinds lengths (with-point t p)) b (k tt))
   where
     abbrev bytes-from : ℕ → List ℕ → Behaviour (Unit {0}) Answer
-    bytes-from i rest = write-blocking-bytes (t .len) (t .«send_stop») i rest n k
+    bytes-from i rest = write-blocking-bytes reason-of (t .len) (t .«send_stop») i rest n k
 
     -- the wait for STOP after an abort or the last byte, and what follows it
     stops : (r : T.Tried) (rest : Behaviour (Unit {0}) Answer) (m : ℕ) → m ≤ n → (b : List ℕ)
@@ -112,7 +112,8 @@ module _ (coded : Bool) (kinds lengths bytes : List ℕ) (t : Transfer) (k : Uni
         (bytes-agree next rest (i + 1) m₁ (omega arith) (omega arith) b (held-head bytes t byte (next ∷ rest) i held .1 .0))))
 
     pub write-blocking-agrees : (ws : List ℕ) (m : ℕ) → m ≤ top → m ≤ n → (b : List ℕ) → Held bytes t ws 0 → 0 < t .len
-        → Agrees coded kinds lengths bytes m (with-point t (WriteBlocking (W.Send 0))) b (write-blocking-internal ws (t .«send_stop») n k)
+        → Agrees coded kinds lengths bytes m (with-point t (WriteBlocking (W.Send 0))) b
+        (write-blocking-internal reason-of ws (t .«send_stop») n k)
     unfolding write-blocking-internal
     write-blocking-agrees [] m h l b held pos = absurd (omega (arith, held .sum))
     write-blocking-agrees (byte ∷ ws) m h l b held pos =

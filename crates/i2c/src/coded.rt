@@ -17,6 +17,7 @@ ghost use Rattle.regs.specs.Log.{Leaves, LeavesBuffer, expected};
 ghost use Rattle.regs.specs.Watched.{watched};
 ghost use Rattle.master.specs.Calls.{program-by, reads-into, writes-from, writes-then-reads, transacts};
 ghost use Rattle.master.specs.Coded.{coder, longer-transfer, with-code};
+ghost use Rattle.master.specs.Driver.{reason-of};
 ghost use Rattle.master.specs.Operations as Spec;
 ghost use Rattle.master.specs.Operations.{lists, listed};
 ghost use Rattle.transfer.specs.inner.Points.{mode-of};
@@ -37,7 +38,7 @@ fn coded_by(
     ensures { λ r. ⌜ LeavesBuffer
         (expected
         (watched (coder address (listed (now (kinds .entry)) (now (lengths .entry)) (now (write .entry))))
-        (longer-transfer (mode-of mode) restart address
+        (longer-transfer reason-of (mode-of mode) restart address
         (with-code 0 (listed (now (kinds .entry)) (now (lengths .entry)) (now (write .entry))))))
         (now (log .entry)) (now (readings .entry)) (now (read .entry)) tt)
         (now (log .entry)) (now (log .exit)) (now (read .exit)) r ⌝ }

@@ -22,7 +22,7 @@ use Rattle.regs.specs.declared.answers.Refusal.the-variants.{NoPlaceForPending}
 use Rattle.regs.specs.declared.answers.Reply.{Reply}
 use Rattle.regs.specs.declared.answers.Reply.the-variants.{Answered, LogFull, OutOfReadings}
 use Rattle.clock_setting.specs.SetConfig.{set-config}
-use Rattle.master.specs.Driver.{setup}
+use Rattle.master.specs.Driver.{setup, reason-of}
 use Rattle.master.specs.Operations as Op
 use Rattle.master.specs.Operations.{Transfer, Mode, blocking, async, operations-of, fits, lists, listed}
 use Rattle.master.specs.Transfer.{within, transfer, each-operation, blocking-read, blocking-write, blocking-write-read}
@@ -140,7 +140,8 @@ idle-opens true = refl
 idle-opens false = refl
 
 transfer-opens : (mode : Mode) (address : ℕ) (x : Transfer ℕ) (n : ℕ)
-    → OpensAs (first ((not (idle mode (operations-of x)) && not (ltb address 0x80) numbered 6) ∷ [])) tt (transfer mode address x n ends)
+    → OpensAs (first ((not (idle mode (operations-of x)) && not (ltb address 0x80) numbered 6) ∷ [])) tt
+    (transfer reason-of mode address x n ends)
 unfolding blocking-read blocking-write blocking-write-read blocking-transaction read-async write-async write-read-async transaction-async
     each-operation
 transfer-opens blocking address (Op.read len) n = setup-opens address n _
@@ -155,7 +156,7 @@ transfer-opens async address (Op.transaction (o ∷ os)) n = setup-opens address
 
 within-opens : (limits : Bool) (mode : Mode) (address : ℕ) (x : Transfer ℕ) (n : ℕ)
     → OpensAs (first ((not limits numbered 20) ∷ (not (idle mode (operations-of x)) && not (ltb address 0x80) numbered 6) ∷ []))
-    tt (within limits (transfer mode address x) n ends)
+    tt (within limits (transfer reason-of mode address x) n ends)
 within-opens true mode address x n = transfer-opens mode address x n
 within-opens false mode address x n = refl
 
@@ -176,7 +177,8 @@ unfolding setup watched-from
 watched-setup address os n k = by-test (ltb address 0x80) (λ q. rw q tt) (λ q. rw q refl)
 
 coded-opens : (mode : Mode) (address : ℕ) (x : Transfer ℕ) (n : ℕ)
-    → OpensAs (first ((not (idle mode (operations-of x)) && not (ltb address 0x80) numbered 6) ∷ [])) tt (coded mode address x n ends)
+    → OpensAs (first ((not (idle mode (operations-of x)) && not (ltb address 0x80) numbered 6) ∷ [])) tt
+    (coded reason-of mode address x n ends)
 unfolding longer-transfer each-coded with-code ends-in-read watched-from
 coded-opens blocking address (Op.read len) n = watched-setup address (operations-of (Op.read len)) n _
 coded-opens blocking address (Op.write bs) n = watched-setup address (operations-of (Op.write bs)) n _
@@ -191,7 +193,7 @@ coded-opens async address (Op.transaction (o ∷ (p ∷ os))) n = watched-setup 
 
 coded-within : (limits : Bool) (mode : Mode) (address : ℕ) (x : Transfer ℕ) (n : ℕ)
     → OpensAs (first ((not limits numbered 20) ∷ (not (idle mode (operations-of x)) && not (ltb address 0x80) numbered 6) ∷ []))
-    tt (within limits (coded mode address x) n ends)
+    tt (within limits (coded reason-of mode address x) n ends)
 coded-within true mode address x n = coded-opens mode address x n
 coded-within false mode address x n = refl
 

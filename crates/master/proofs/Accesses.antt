@@ -59,7 +59,7 @@ if-proper false a b h k = k
 reason-proper : (w : ℕ) → ProperReason (reason-of w)
 reason-proper w = search if-proper
 
-abort-legal : LegalWith ProperTried read-and-clear-abort-reason
+abort-legal : LegalWith ProperTried (read-and-clear-abort-reason reason-of)
 unfolding read-and-clear-abort-reason
 abort-legal = search (legal, reason-proper)
 
@@ -76,20 +76,20 @@ ruleset parts = (legal, capacity-legal, full-legal, len-legal, abort-legal, try-
 -- blocking
 
 bytes-read-legal : (offset lastindex : ℕ) (restart stop : Bool) (i left : ℕ)
-    → LegalP (read-blocking-bytes offset lastindex restart stop i left)
+    → LegalP (read-blocking-bytes reason-of offset lastindex restart stop i left)
 unfolding read-blocking-bytes
 bytes-read-legal offset lastindex restart stop i zero = search legal
 bytes-read-legal offset lastindex restart stop i (suc left) =
     let ih = bytes-read-legal offset lastindex restart stop (i + 1) left in search parts depth 20
 
-bytes-written-legal : (len : ℕ) (stop : Bool) (bs : List ℕ) (i : ℕ) → LegalP (write-blocking-bytes len stop i bs)
+bytes-written-legal : (len : ℕ) (stop : Bool) (bs : List ℕ) (i : ℕ) → LegalP (write-blocking-bytes reason-of len stop i bs)
 unfolding write-blocking-bytes
 bytes-written-legal len stop [] i = search legal
 bytes-written-legal len stop (b ∷ bs) i = let ih = bytes-written-legal len stop bs (i + 1) in search parts depth 20
 
 -- async
 
-stop-poll-legal : (had-abort : Tried (Unit {0})) → LegalWith (InPoll ProperTried) (stop-poll had-abort)
+stop-poll-legal : (had-abort : Tried (Unit {0})) → LegalWith (InPoll ProperTried) (stop-poll reason-of had-abort)
 stop-poll-legal had-abort = search (legal, abort-legal) depth 20
 
 both-proper : (a b : Tried (Unit {0})) → ProperTried a → ProperTried b → ProperTried (both a b)
@@ -99,11 +99,11 @@ both-proper (err reason) b c e = c
 stop-det-legal : (had-abort : Tried (Unit {0}))
     → ProperTried had-abort
     → (do-stop : Bool)
-    → LegalWith ProperTried (wait-stop-det had-abort do-stop)
+    → LegalWith ProperTried (wait-stop-det reason-of had-abort do-stop)
 unfolding wait-stop-det
 stop-det-legal had-abort c do-stop n k h =
     if-program _ _ _ n k (is-err had-abort || do-stop)
-    (wait-on-with (Unit {0}) (Tried (Unit {0})) ProperTried tt (λ _. stop-poll had-abort)
+    (wait-on-with (Unit {0}) (Tried (Unit {0})) ProperTried tt (λ _. stop-poll reason-of had-abort)
     (modify INTR-MASK (λ w. set-m-tx-abrt (set-m-stop-det w))) (λ _. stop-poll-legal had-abort) (search legal) n _
     (λ abort e. reads-legal tt (λ v. h (both had-abort abort) (both-proper had-abort abort c e))))
     (h had-abort c)
@@ -126,7 +126,7 @@ batch-proper batch rxfifo (ok u) c = go (not (ltb rxfifo batch))
     go false = tt
 batch-proper batch rxfifo (err reason) c = c
 
-batch-poll-legal : (batch : ℕ) → LegalWith (InPoll ProperTried) (batch-poll batch)
+batch-poll-legal : (batch : ℕ) → LegalWith (InPoll ProperTried) (batch-poll reason-of batch)
 batch-poll-legal batch = search (legal, len-legal, abort-legal, batch-proper)
 
 take-legal : (offset len remaining queue : ℕ) (res : Tried ℕ)
@@ -136,11 +136,11 @@ take-legal offset len remaining queue (ok rxfifo) c = search (legal, fetch-legal
 take-legal offset len remaining queue (err reason) c = λ n k h. h (done (err reason)) c
 
 round-legal : (offset len : ℕ) (restart stop : Bool) (counts : Counts)
-    → LegalWith (InTurn ProperTried) (read-round offset len restart stop counts)
+    → LegalWith (InTurn ProperTried) (read-round reason-of offset len restart stop counts)
 round-legal offset len restart stop counts n k h =
     if-program _ _ _ n k (not (ltb 0 (counts .remaining))) (h (done (ok tt)) tt)
     (capacity-legal n _ (λ space. batch-legal len restart stop _ (counts .remaining-queue) n _ (λ _.
-    wait-on-with (Unit {0}) (Tried ℕ) ProperTried tt (λ _. batch-poll _) _ (λ _. batch-poll-legal _) (search legal) n _
+    wait-on-with (Unit {0}) (Tried ℕ) ProperTried tt (λ _. batch-poll reason-of _) _ (λ _. batch-poll-legal _) (search legal) n _
     (λ res c. take-legal offset len (counts .remaining) _ res c n k h))))
 
 fill-legal : (stop : Bool) (space : ℕ) (bs : List ℕ) → LegalP (fill stop space bs)
@@ -157,40 +157,40 @@ go-proper : (bytes : List ℕ) (res : Tried (Unit {0})) → ProperTried res → 
 go-proper bytes (ok u) c = tt
 go-proper bytes (err reason) c = c
 
-space-legal : (filled : Filled) → LegalWith (InTurn ProperTried) (wait-space filled)
+space-legal : (filled : Filled) → LegalWith (InTurn ProperTried) (wait-space reason-of filled)
 space-legal break-xmit = search legal
 space-legal (full bs) = λ n k h.
-    wait-on-with (Unit {0}) (Tried (Unit {0})) ProperTried tt (λ _. space-poll) _ (λ _. search (abort-legal, come-legal))
+    wait-on-with (Unit {0}) (Tried (Unit {0})) ProperTried tt (λ _. (space-poll reason-of)) _ (λ _. search (abort-legal, come-legal))
     (search legal) n _ (λ res c. h (go-on bs res) (go-proper bs res c))
 
-xmit-legal : (stop : Bool) (bs : List ℕ) → LegalWith (InTurn ProperTried) (xmit stop bs)
+xmit-legal : (stop : Bool) (bs : List ℕ) → LegalWith (InTurn ProperTried) (xmit reason-of stop bs)
 xmit-legal stop bs n k h = capacity-legal n _ (λ space. fill-legal stop space bs n _ (λ filled. space-legal filled n k h))
 
 -- both modes together
 
-read-legal : (mode : Mode) (offset len : ℕ) (restart stop : Bool) → LegalP (read-internal mode offset len restart stop)
+read-legal : (mode : Mode) (offset len : ℕ) (restart stop : Bool) → LegalP (read-internal reason-of mode offset len restart stop)
 unfolding read-blocking-internal read-async-internal
 read-legal blocking offset len restart stop = search (legal, bytes-read-legal) depth 20
 read-legal async offset len restart stop = λ n k h.
     when-legal _ n _ (eqb len 0) (ends-legal tt)
-    (rounds-with Counts (Tried (Unit {0})) ProperTried n n (read-round offset len restart stop) _ _
+    (rounds-with Counts (Tried (Unit {0})) ProperTried n n (read-round reason-of offset len restart stop) _ _
     (round-legal offset len restart stop) (λ abort c.
     stop-det-legal abort c stop n _ (λ res d. try-legal res d n k h)))
 
-write-legal : (mode : Mode) (bs : List ℕ) (stop : Bool) → LegalP (write-internal mode bs stop)
+write-legal : (mode : Mode) (bs : List ℕ) (stop : Bool) → LegalP (write-internal reason-of mode bs stop)
 unfolding write-blocking-internal write-async-internal
 write-legal blocking bs stop = search (legal, bytes-written-legal) depth 20
 write-legal async bs stop = λ n k h.
-    rounds-with (List ℕ) (Tried (Unit {0})) ProperTried n n (xmit stop) bs _ (xmit-legal stop) (λ abort c.
+    rounds-with (List ℕ) (Tried (Unit {0})) ProperTried n n (xmit reason-of stop) bs _ (xmit-legal stop) (λ abort c.
     stop-det-legal abort c stop n _ (λ res d. try-legal res d n k h))
 
-operations-legal : (mode : Mode) (offset : ℕ) (os : List (Operation ℕ)) → LegalP (each-operation mode offset os)
+operations-legal : (mode : Mode) (offset : ℕ) (os : List (Operation ℕ)) → LegalP (each-operation reason-of mode offset os)
 unfolding each-operation
 operations-legal mode offset [] = search legal
 operations-legal mode offset (reads len ∷ os) = let ih = operations-legal mode (offset + len) os in search (legal, read-legal)
 operations-legal mode offset (writes bs ∷ os) = let ih = operations-legal mode offset os in search (legal, write-legal)
 
-transfer-legal : (mode : Mode) (address : ℕ) (x : Transfer ℕ) → LegalWith ProperAnswer (transfer mode address x)
+transfer-legal : (mode : Mode) (address : ℕ) (x : Transfer ℕ) → LegalWith ProperAnswer (transfer reason-of mode address x)
 unfolding blocking-read blocking-write blocking-write-read blocking-transaction read-async write-async write-read-async transaction-async
 transfer-legal blocking address (read len) = let internal = read-legal blocking in search (legal, setup-legal)
 transfer-legal blocking address (write bs) = let internal = write-legal blocking in search (legal, setup-legal)
@@ -212,7 +212,8 @@ call-legal mode address (transacts kinds lengths bytes buffer) = search (legal, 
 
 -- with a packet error code
 
-coded-operations-legal : (mode : Mode) (restart : Bool) (offset : ℕ) (os : List (Operation ℕ)) → LegalP (each-coded mode restart offset os)
+coded-operations-legal : (mode : Mode) (restart : Bool) (offset : ℕ) (os : List (Operation ℕ)) → LegalP
+    (each-coded reason-of mode restart offset os)
 unfolding each-coded
 coded-operations-legal mode restart offset [] = search legal
 coded-operations-legal mode restart offset (reads len ∷ os) =
@@ -221,13 +222,13 @@ coded-operations-legal mode restart offset (writes bs ∷ os) =
     let ih = coded-operations-legal mode restart offset os in search (legal, write-legal)
 
 longer-legal : (mode : Mode) (restart : Bool) (address : ℕ) (os : List (Operation ℕ))
-    → LegalWith ProperAnswer (longer-transfer mode restart address os)
+    → LegalWith ProperAnswer (longer-transfer reason-of mode restart address os)
 unfolding longer-transfer
 longer-legal mode restart address os = search (legal, setup-legal, coded-operations-legal)
 
 -- the longer transfer by itself, before its code is known
 pub longer-access-legal : (mode : Mode) (restart : Bool) (address : ℕ) (os : List (Operation ℕ))
-    → LegalCall (longer-transfer mode restart address os)
+    → LegalCall (longer-transfer reason-of mode restart address os)
 longer-access-legal mode restart address os = legal-call _ (longer-legal mode restart address os)
 
 -- the code is written to DATA_CMD, which does not disable the block
@@ -245,7 +246,7 @@ tested-proper right (Heard c) h = h
 tested-proper right (Responded s) h = h
 tested-proper right (Refused why) h = h
 
-coded-legal : (mode : Mode) (address : ℕ) (t : Transfer ℕ) (n : ℕ) → LegalB false (coded mode address t n ends)
+coded-legal : (mode : Mode) (address : ℕ) (t : Transfer ℕ) (n : ℕ) → LegalB false (coded reason-of mode address t n ends)
 coded-legal mode address t n =
     let os : List (Operation ℕ) = operations-of t in
     watched-legal (coder address os) (code-kept address os)

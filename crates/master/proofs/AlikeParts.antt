@@ -9,7 +9,7 @@ use lib.Dec.{eqb, eqb·suc-zero}
 use lib.ListN.{length}
 use borrow.Author.Tests.{eq-eqb, ne-eqb}
 use Rattle.regs.specs.Program.{Turn, by-turn, rounds, ok, err}
-use Rattle.master.specs.Driver.{Driver, Tried, try, while-turn, setup, tx-fifo-capacity, tx-fifo-full, rx-fifo-len}
+use Rattle.master.specs.Driver.{Driver, Tried, try, while-turn, setup, tx-fifo-capacity, tx-fifo-full, rx-fifo-len, reason-of}
 use Rattle.master.specs.Driver.{read-and-clear-abort-reason}
 use Rattle.master.specs.Blocking.{read-blocking-bytes, read-blocking-internal, write-blocking-bytes, write-blocking-internal}
 use Rattle.master.specs.Async.{is-empty, wait-stop-det, Counts, queue-batch, fetch-bytes, take-batch, read-round}
@@ -39,7 +39,7 @@ len-same : Same rx-fifo-len
 unfolding rx-fifo-len
 len-same = search alike
 
-abort-same : Same read-and-clear-abort-reason
+abort-same : Same (read-and-clear-abort-reason reason-of)
 unfolding read-and-clear-abort-reason
 abort-same = search alike
 
@@ -53,7 +53,7 @@ while-turn-same body h false = search alike
 
 ruleset parts = (alike, capacity-same, full-same, len-same, abort-same, try-same, while-turn-same)
 
-stop-det-same : (had-abort : Tried (Unit {0})) (do-stop : Bool) → Same (wait-stop-det had-abort do-stop)
+stop-det-same : (had-abort : Tried (Unit {0})) (do-stop : Bool) → Same (wait-stop-det reason-of had-abort do-stop)
 unfolding wait-stop-det
 stop-det-same had-abort do-stop = search parts depth 20
 
@@ -69,7 +69,7 @@ come-same (err reason) = search alike
 -- ---- reads
 
 bytes-same : (offset lastindex : ℕ) (restart stop : Bool) (i left : ℕ)
-    → SameRead (read-blocking-bytes offset lastindex restart stop i left)
+    → SameRead (read-blocking-bytes reason-of offset lastindex restart stop i left)
 unfolding read-blocking-bytes
 bytes-same offset lastindex restart stop i zero = search alike
 bytes-same offset lastindex restart stop i (suc left) =
@@ -84,10 +84,10 @@ take-same : (offset len remaining queue : ℕ) (res : Tried ℕ) → SameRead (t
 take-same offset len remaining queue (ok rxfifo) = search fetch-same
 take-same offset len remaining queue (err reason) = search alike
 
-round-same : (offset len : ℕ) (restart stop : Bool) (counts : Counts) → SameRead (read-round offset len restart stop counts)
+round-same : (offset len : ℕ) (restart stop : Bool) (counts : Counts) → SameRead (read-round reason-of offset len restart stop counts)
 round-same offset len restart stop counts = search (parts, batch-same, take-same) depth 30
 
-pub read-same : (mode : Mode) (offset len : ℕ) (restart stop : Bool) → SameRead (read-internal mode offset len restart stop)
+pub read-same : (mode : Mode) (offset len : ℕ) (restart stop : Bool) → SameRead (read-internal reason-of mode offset len restart stop)
 unfolding read-blocking-internal read-async-internal
 read-same blocking offset len restart stop = search (alike, bytes-same)
 read-same async offset len restart stop = search (alike, round-same, stop-det-same, try-same) depth 10
@@ -123,7 +123,7 @@ written-alike : (c n len len′ : ℕ) {last : Bool} {bs cs : List ℕ} → Sent
     → i + length cs ≡ len′
     → (k l : Unit {0} → Does)
     → Alike c last (k tt) (l tt)
-    → Alike c last (write-blocking-bytes len last i bs n k) (write-blocking-bytes len′ last i cs n l)
+    → Alike c last (write-blocking-bytes reason-of len last i bs n k) (write-blocking-bytes reason-of len′ last i cs n l)
 unfolding write-blocking-bytes
 written-alike c n len len′ over i e e′ k l h = h
 written-alike c n len len′ code i e e′ k l h =
@@ -149,30 +149,30 @@ fill-alike c n k l ended more (suc space) (byte {b = b} small p q s) =
 
 space-alike : (c n : ℕ) (d : Bool) (bs cs : List ℕ) (k l : Turn (List ℕ) (Tried (Unit {0})) → Does)
     → ((res : Tried (Unit {0})) → Alike c d (k (go-on bs res)) (l (go-on cs res)))
-    → Alike c d (wait-space (full bs) n k) (wait-space (full cs) n l)
+    → Alike c d (wait-space reason-of (full bs) n k) (wait-space reason-of (full cs) n l)
 space-alike c n d bs cs k l h = search (parts, come-same) depth 20
 
 module _ (c n : ℕ) (last : Bool) (k l : Tried (Unit {0}) → Does) (h : (r : Tried (Unit {0})) → Alike c last (k r) (l r)) where
   gone-on : (left : ℕ) (bs cs : List ℕ)
-      → Alike c last (rounds left n (xmit last) bs k) (rounds left n (xmit last) cs l)
+      → Alike c last (rounds left n (xmit reason-of last) bs k) (rounds left n (xmit reason-of last) cs l)
       → (res : Tried (Unit {0}))
-      → Alike c last (by-turn (go-on bs res) (λ y. rounds left n (xmit last) y k) k)
-      (by-turn (go-on cs res) (λ y. rounds left n (xmit last) y l) l)
+      → Alike c last (by-turn (go-on bs res) (λ y. rounds left n (xmit reason-of last) y k) k)
+      (by-turn (go-on cs res) (λ y. rounds left n (xmit reason-of last) y l) l)
   gone-on left bs cs ih (ok u) = ih
   gone-on left bs cs ih (err reason) = h (err reason)
 
   rounds-sent : (left : ℕ) (bs cs : List ℕ) → Sent c last bs cs
-      → Alike c last (rounds left n (xmit last) bs k) (rounds left n (xmit last) cs l)
+      → Alike c last (rounds left n (xmit reason-of last) bs k) (rounds left n (xmit reason-of last) cs l)
   unfolding rounds
   rounds-sent zero bs cs s = cut-alike
   rounds-sent (suc left) bs cs s = capacity-same c last n _ _ (λ space. fill-alike c n _ _ (h (ok tt))
-      (λ bs cs s. space-alike c n last bs cs (λ t. by-turn t (λ y. rounds left n (xmit last) y k) k)
-      (λ t. by-turn t (λ y. rounds left n (xmit last) y l) l) (gone-on left bs cs (rounds-sent left bs cs s))) space s)
+      (λ bs cs s. space-alike c n last bs cs (λ t. by-turn t (λ y. rounds left n (xmit reason-of last) y k) k)
+      (λ t. by-turn t (λ y. rounds left n (xmit reason-of last) y l) l) (gone-on left bs cs (rounds-sent left bs cs s))) space s)
 
 pub write-alike : (c : ℕ) (mode : Mode) (last : Bool) (x y : ℕ) (xs ys : List ℕ) → Sent c last (x ∷ xs) (y ∷ ys)
     → (n : ℕ) (k l : Unit {0} → Does)
     → Alike c last (k tt) (l tt)
-    → Alike c last (write-internal mode (x ∷ xs) last n k) (write-internal mode (y ∷ ys) last n l)
+    → Alike c last (write-internal reason-of mode (x ∷ xs) last n k) (write-internal reason-of mode (y ∷ ys) last n l)
 unfolding write-blocking-internal write-async-internal
 write-alike c blocking last x y xs ys s n k l h = rw (eqb·suc-zero (length xs), eqb·suc-zero (length ys))
     (written-alike c n (length (x ∷ xs)) (length (y ∷ ys)) s 0 (omega arith) (omega arith) k l h)

@@ -9,7 +9,7 @@ use Rattle.regs.specs.Log.{Each}
 use Rattle.regs.specs.Left.{bytes-read}
 use Rattle.regs.specs.declared.answers.Answer.the-variants.{Accepted}
 use Rattle.regs.specs.Program as P
-use Rattle.master.specs.Driver.{setup}
+use Rattle.master.specs.Driver.{setup, reason-of}
 use Rattle.master.specs.Async.{is-empty}
 use Rattle.master.specs.Operations.{Operation, writes, reads, Transfer, read, write, write-read, transaction, Mode, blocking, async}
 use Rattle.master.specs.Operations.{operations-of}
@@ -31,7 +31,8 @@ some-left b o (p ∷ os) = refl
 
 module _ (c : ℕ) (mode : Mode) (n : ℕ) (k : Unit {0} → Does) (h : Alike c true (k tt) (k tt)) where
   last-alike : (offset : ℕ) (o : Operation ℕ) → NotEmpty o → Small o
-      → Alike c false (each-coded mode false offset (longer 0 o ∷ []) n k) (each-operation mode offset (longer c o ∷ []) n k)
+      → Alike c false (each-coded reason-of mode false offset (longer 0 o ∷ []) n k)
+      (each-operation reason-of mode offset (longer c o ∷ []) n k)
   unfolding each-coded each-operation
   last-alike offset (writes []) some small = absurd some
   last-alike offset (writes (x ∷ xs)) some small = late (write-alike c mode true x x _ _ (code-sent c x xs small) n _ _ h)
@@ -39,7 +40,8 @@ module _ (c : ℕ) (mode : Mode) (n : ℕ) (k : Unit {0} → Does) (h : Alike c 
   last-alike offset (reads (suc m)) some small = read-same mode offset _ false true c n _ _ (λ _. late h)
 
   operations-alike : (offset : ℕ) (os : List (Operation ℕ)) → Each NotEmpty os → Each Small os
-      → Alike c false (each-coded mode false offset (with-code 0 os) n k) (each-operation mode offset (with-code c os) n k)
+      → Alike c false (each-coded reason-of mode false offset (with-code 0 os) n k)
+      (each-operation reason-of mode offset (with-code c os) n k)
   unfolding each-coded each-operation with-code
   operations-alike offset [] some small = late h
   operations-alike offset (o ∷ []) some small = last-alike offset o (some .0) (small .0)
@@ -55,7 +57,7 @@ module _ (c : ℕ) (mode : Mode) (n : ℕ) (k : Unit {0} → Does) (h : Alike c 
 -- what follows `setup`
 
 abbrev coded-part : Mode → ℕ → Transfer ℕ → Does
-coded-part mode n t = each-coded mode (restarts t) 0 (with-code 0 (operations-of t)) n (λ _. P.ends Accepted)
+coded-part mode n t = each-coded reason-of mode (restarts t) 0 (with-code 0 (operations-of t)) n (λ _. P.ends Accepted)
 
 abbrev plain-part : ℕ → Mode → ℕ → Transfer ℕ → Does
 plain-part c mode n t = operate mode (longer-form c t) n (λ _. P.ends Accepted)
@@ -78,8 +80,8 @@ set-up : (c address n : ℕ) (t u : Does) → Alike c false t u → Alike c fals
 set-up c address n t u h = setup-same address c false n _ _ (λ _. h)
 
 pub transfer-alike : (c : ℕ) (mode : Mode) (address n : ℕ) (t : Transfer ℕ) → Alike c false (coded-part mode n t) (plain-part c mode n t)
-    → Alike c false (longer-transfer mode (restarts t) address (with-code 0 (operations-of t)) n P.ends)
-    (transfer mode address (longer-form c t) n P.ends)
+    → Alike c false (longer-transfer reason-of mode (restarts t) address (with-code 0 (operations-of t)) n P.ends)
+    (transfer reason-of mode address (longer-form c t) n P.ends)
 unfolding longer-transfer with-code blocking-read blocking-write blocking-write-read blocking-transaction read-async write-async
     write-read-async transaction-async each-coded each-operation
 transfer-alike c blocking address n (read m) h = set-up c address n _ _ h

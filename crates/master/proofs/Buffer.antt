@@ -20,7 +20,7 @@ use Rattle.regs.proofs.Tests.{false-true, both-of, by-test}
 use Rattle.regs.proofs.Stores.{Stores, data-stores, store-stores, cut-stores, Late, Opens, refuses, begins}
 use Rattle.regs.proofs.Stores.{Whole, whole, none, any}
 use Rattle.regs.proofs.Quiet.{Quiet, quiet, ends-late}
-use Rattle.master.specs.Driver.{Driver, Tried, try, while-turn, setup, tx-fifo-capacity, tx-fifo-full, rx-fifo-len}
+use Rattle.master.specs.Driver.{Driver, Tried, try, while-turn, setup, tx-fifo-capacity, tx-fifo-full, rx-fifo-len, reason-of}
 use Rattle.master.specs.Driver.{read-and-clear-abort-reason}
 use Rattle.master.specs.Blocking.{read-blocking-bytes, read-blocking-internal, write-blocking-bytes, write-blocking-internal}
 use Rattle.master.specs.Async.{wait-stop-det, queue-batch, fetch-bytes, take-batch, read-round, read-async-internal}
@@ -56,7 +56,7 @@ len-still : Still rx-fifo-len
 unfolding rx-fifo-len
 len-still = search quiet
 
-abort-still : Still read-and-clear-abort-reason
+abort-still : Still (read-and-clear-abort-reason reason-of)
 unfolding read-and-clear-abort-reason
 abort-still = search quiet
 
@@ -70,12 +70,12 @@ while-turn-still body h false = search quiet
 
 ruleset parts = (quiet, capacity-still, full-still, len-still, abort-still, try-still, while-turn-still)
 
-bytes-still : (len : ℕ) (stop : Bool) (bs : List ℕ) (i : ℕ) → Still (write-blocking-bytes len stop i bs)
+bytes-still : (len : ℕ) (stop : Bool) (bs : List ℕ) (i : ℕ) → Still (write-blocking-bytes reason-of len stop i bs)
 unfolding write-blocking-bytes
 bytes-still len stop [] i = search quiet
 bytes-still len stop (b ∷ bs) i = let ih = bytes-still len stop bs (i + 1) in search parts depth 20
 
-stop-det-still : (had-abort : Tried (Unit {0})) (do-stop : Bool) → Still (wait-stop-det had-abort do-stop)
+stop-det-still : (had-abort : Tried (Unit {0})) (do-stop : Bool) → Still (wait-stop-det reason-of had-abort do-stop)
 unfolding wait-stop-det
 stop-det-still had-abort do-stop = search parts depth 20
 
@@ -94,11 +94,11 @@ come-still : (abort : Tried (Unit {0})) → Still (space-come abort)
 come-still (ok u) = search parts
 come-still (err reason) = search quiet
 
-space-still : (filled : Filled) → Still (wait-space filled)
+space-still : (filled : Filled) → Still (wait-space reason-of filled)
 space-still break-xmit = search quiet
 space-still (full bs) = search (parts, come-still) depth 20
 
-pub write-still : (mode : Mode) (bs : List ℕ) (stop : Bool) → Still (write-internal mode bs stop)
+pub write-still : (mode : Mode) (bs : List ℕ) (stop : Bool) → Still (write-internal reason-of mode bs stop)
 unfolding write-blocking-internal write-async-internal
 write-still blocking bs stop = search (quiet, bytes-still) depth 20
 write-still async bs stop = search (parts, fill-still, space-still, stop-det-still) depth 30
@@ -113,7 +113,7 @@ fetched l h = data-stores refl (λ v. store-stores l (h v))
 
 module _ (L n end : ℕ) (most : end ≤ L) (k : Unit {0} → Does) (h : Fills L end (k tt)) where
   bytes-filled : (offset lastindex : ℕ) (restart stop : Bool) (left i : ℕ) → offset + i + left ≡ end
-      → Fills L (offset + i) (read-blocking-bytes offset lastindex restart stop i left n k)
+      → Fills L (offset + i) (read-blocking-bytes reason-of offset lastindex restart stop i left n k)
   unfolding read-blocking-bytes
   bytes-filled offset lastindex restart stop zero i e = let same : offset + i ≡ end = omega arith in rw same h
   bytes-filled offset lastindex restart stop (suc left) i e =
@@ -139,13 +139,13 @@ module _ (L offset len : ℕ) (restart stop : Bool) (n : ℕ) (k : Tried (Unit {
     (done : Fills L (offset + len) (k (ok tt))) where
   abbrev from : ℕ → ℕ → ℕ → Does
   from left remaining queue =
-      rounds left n (read-round offset len restart stop) (record { remaining = remaining; remaining-queue = queue }) k
+      rounds left n (read-round reason-of offset len restart stop) (record { remaining = remaining; remaining-queue = queue }) k
 
   take-filled : (left remaining queue : ℕ) → remaining ≤ len
       → ((rest queue : ℕ) → rest ≤ len → Fills L (offset + (len - rest)) (from left rest queue))
       → (batch : ℕ) (res : Tried ℕ) → Fills L (offset + (len - remaining))
       (take-batch offset len remaining (queue - batch) res n
-      (λ t. by-turn t (λ y. rounds left n (read-round offset len restart stop) y k) k))
+      (λ t. by-turn t (λ y. rounds left n (read-round reason-of offset len restart stop) y k) k))
   take-filled left remaining queue fits ih batch (err reason) = aborted reason (offset + (len - remaining))
   take-filled left remaining queue fits ih batch (ok rx) =
       batch-at L n _ (omega arith) _ (ih _ _ (omega arith)) _ (offset + (len - remaining)) _ (omega arith) (omega arith)
@@ -163,7 +163,7 @@ module _ (L offset len : ℕ) (restart stop : Bool) (n : ℕ) (k : Tried (Unit {
 
 pub read-filled : (mode : Mode) (offset len : ℕ) (restart stop : Bool) (L n : ℕ) (k : Unit {0} → Does) → offset + len ≤ L
     → Fills L (offset + len) (k tt)
-    → Fills L offset (read-internal mode offset len restart stop n k)
+    → Fills L offset (read-internal reason-of mode offset len restart stop n k)
 unfolding read-blocking-internal read-async-internal wait-stop-det
 read-filled blocking offset len restart stop L n k most h =
     let start : offset + 0 ≡ offset = omega arith in
@@ -171,7 +171,7 @@ read-filled blocking offset len restart stop L n k most h =
     search quiet
 read-filled async offset len restart stop L n k most h =
     let start : offset + (len - len) ≡ offset = omega arith in
-    let rounds = rw start at (rounds-filled L offset len restart stop n (λ r. wait-stop-det r stop n (λ res. try res n k)) most
+    let rounds = rw start at (rounds-filled L offset len restart stop n (λ r. wait-stop-det reason-of r stop n (λ res. try res n k)) most
     (λ reason i. search parts depth 20) (search parts depth 20) n len len (omega arith)) in
     search quiet
 
@@ -183,7 +183,7 @@ reads-in (writes bs ∷ os) = reads-in os
 
 operations-filled : (mode : Mode) (os : List (Operation ℕ)) (offset L n : ℕ) (k : Unit {0} → Does) → offset + reads-in os ≤ L
     → ((i : ℕ) → Fills L i (k tt))
-    → Fills L offset (each-operation mode offset os n k)
+    → Fills L offset (each-operation reason-of mode offset os n k)
 unfolding each-operation
 operations-filled mode [] offset L n k most h = h offset
 operations-filled mode (reads len ∷ os) offset L n k most h =
@@ -208,10 +208,10 @@ accepted L i = ends-late refl tt
 
 -- what a transfer does after `setup`
 abbrev pub operate : Mode → Transfer ℕ → Driver (Unit {0})
-operate mode (read len) = read-internal mode 0 len true true
-operate mode (write bs) = write-internal mode bs true
-operate mode (write-read bs len) = write-internal mode bs false >> read-internal mode 0 len true true
-operate mode (transaction os) = each-operation mode 0 os
+operate mode (read len) = read-internal reason-of mode 0 len true true
+operate mode (write bs) = write-internal reason-of mode bs true
+operate mode (write-read bs len) = write-internal reason-of mode bs false >> read-internal reason-of mode 0 len true true
+operate mode (transaction os) = each-operation reason-of mode 0 os
 
 operate-filled : (mode : Mode) (x : Transfer ℕ) (L n : ℕ) → reads-in (operations-of x) ≤ L
     → Fills L 0 (operate mode x n (λ _. P.ends Accepted))
@@ -222,7 +222,7 @@ operate-filled mode (write-read bs len) L n most =
 operate-filled mode (transaction os) L n most = operations-filled mode os 0 L n _ (omega arith) (accepted L)
 
 transfer-opens : (mode : Mode) (address : ℕ) (x : Transfer ℕ) (L n : ℕ) → Fills L 0 (operate mode x n (λ _. P.ends Accepted))
-    → Calls L (transfer mode address x n P.ends)
+    → Calls L (transfer reason-of mode address x n P.ends)
 unfolding blocking-read blocking-write blocking-write-read blocking-transaction read-async write-async write-read-async transaction-async
     each-operation
 transfer-opens blocking address (read len) L n h = setup-opens address L n _ h
@@ -237,7 +237,7 @@ transfer-opens async address (transaction (o ∷ os)) L n h = setup-opens addres
 
 within-opens : (limits : Bool) (mode : Mode) (address : ℕ) (x : Transfer ℕ) (L n : ℕ)
     → (limits ≡ true → reads-in (operations-of x) ≤ L)
-    → Calls L (within limits (transfer mode address x) n P.ends)
+    → Calls L (within limits (transfer reason-of mode address x) n P.ends)
 within-opens true mode address x L n most =
     transfer-opens mode address x L n (operate-filled mode x L n (most refl))
 within-opens false mode address x L n most = refuses tt

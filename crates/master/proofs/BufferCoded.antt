@@ -21,6 +21,7 @@ use Rattle.regs.proofs.Tests.{by-test}
 use Rattle.regs.proofs.Stores.{refuses, Whole, whole, none, any}
 use Rattle.regs.proofs.Quiet.{ends-late}
 use Rattle.regs.specs.Watched.{watched-from}
+use Rattle.master.specs.Driver.{reason-of}
 use Rattle.master.specs.Operations.{Operation, writes, reads, Mode, blocking, async, operations-of}
 use Rattle.master.specs.Transfer.{within}
 use Rattle.master.specs.Coded.{with-code, room-of, ends-in-read, tested, is-right, coder, each-coded, longer-transfer}
@@ -37,7 +38,7 @@ use Rattle.master.proofs.Longer.{room-lent}
 operations-filled : (mode : Mode) (restart : Bool) (os : List (Operation ℕ)) (offset L n : ℕ) (k : Unit {0} → Does)
     → offset + reads-in os ≤ L
     → ((i : ℕ) → Fills L i (k tt))
-    → Fills L offset (each-coded mode restart offset os n k)
+    → Fills L offset (each-coded reason-of mode restart offset os n k)
 unfolding each-coded
 operations-filled mode restart [] offset L n k most h = h offset
 operations-filled mode restart (reads len ∷ os) offset L n k most h =
@@ -47,7 +48,7 @@ operations-filled mode restart (writes (b ∷ bs) ∷ os) offset L n k most h =
     write-still mode (b ∷ bs) _ L offset n [] tt _ refl (λ _. operations-filled mode restart os offset L n k most h)
 
 longer-opens : (mode : Mode) (restart : Bool) (address : ℕ) (os : List (Operation ℕ)) (L n : ℕ) → reads-in os ≤ L
-    → Calls L (longer-transfer mode restart address os n P.ends)
+    → Calls L (longer-transfer reason-of mode restart address os n P.ends)
 unfolding longer-transfer each-coded
 longer-opens blocking restart address os L n most =
     setup-opens address L n _ (operations-filled blocking restart os 0 L n _ (omega arith) (accepted L))
@@ -129,7 +130,7 @@ module _ (mode : Mode) (address : ℕ) (lent : Lent) (n room : ℕ) (rs : List �
   os = operations-of (arguments lent)
 
   abbrev longer : Does
-  longer = longer-transfer mode (restarts (arguments lent)) address (with-code 0 os) n P.ends
+  longer = longer-transfer reason-of mode (restarts (arguments lent)) address (with-code 0 os) n P.ends
 
   abbrev more : List ℕ
   more = spare (ends-in-read os)
@@ -157,7 +158,7 @@ module _ (mode : Mode) (address : ℕ) (lent : Lent) (n room : ℕ) (rs : List �
 
   within-left : (limits : Bool) → (limits ≡ true → length (buffer-in lent) ≡ room-of os)
       → LeftCoded (length more) (buffer-in lent)
-      (after (within limits (coded mode address (arguments lent)) n P.ends) room rs (buffer-in lent))
+      (after (within limits (coded reason-of mode address (arguments lent)) n P.ends) room rs (buffer-in lent))
   unfolding outcome
   within-left true size = coded-left (size refl)
   within-left false size = refused-left (length more) (buffer-in lent) _

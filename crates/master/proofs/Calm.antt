@@ -12,7 +12,7 @@ use Rattle.regs.specs.Fields.{command-word, cmd}
 use Rattle.regs.specs.Program as P
 use Rattle.regs.specs.Program.{if_then_else_, when, turns, Turn, again, done, by-turn, rounds}
 use Rattle.regs.specs.Program.{Poll, pending, ready, polled, ok, err}
-use Rattle.master.specs.Driver.{Driver, Tried, try, while-turn, setup, tx-fifo-capacity, tx-fifo-full, rx-fifo-len}
+use Rattle.master.specs.Driver.{Driver, Tried, try, while-turn, setup, tx-fifo-capacity, tx-fifo-full, rx-fifo-len, reason-of}
 use Rattle.master.specs.Driver.{read-and-clear-abort-reason}
 use Rattle.master.specs.Async.{wait-stop-det, queue-batch, space-come}
 use Rattle.master.proofs.Emits.{Does}
@@ -126,7 +126,7 @@ pub len-calm : Calm rx-fifo-len
 unfolding rx-fifo-len
 len-calm = search calm
 
-pub abort-calm : Calm read-and-clear-abort-reason
+pub abort-calm : Calm (read-and-clear-abort-reason reason-of)
 unfolding read-and-clear-abort-reason
 abort-calm = search calm
 
@@ -153,7 +153,7 @@ come-calm (err reason) = search calm
 
 -- how the async parts end: after an abort the answer is a refusal
 abbrev pub finish : Bool → ℕ → (Unit {0} → Does) → Tried (Unit {0}) → Does
-finish stop n k r = wait-stop-det r stop n (λ res. try res n k)
+finish stop n k r = wait-stop-det reason-of r stop n (λ res. try res n k)
 
 pub aborted : (stop : Bool) (n : ℕ) (k : Unit {0} → Does) (reason : AbortReason) (c : ToCome) (i : ℕ)
     → Spells c i (finish stop n k (err reason))

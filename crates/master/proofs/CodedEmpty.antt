@@ -23,7 +23,7 @@ use Rattle.regs.specs.Log.{Each}
 use Rattle.regs.specs.Program as P
 use Rattle.regs.specs.Program.{if_then_else_, when, Outcome, just, logged, outcome}
 use Rattle.regs.specs.Watched.{watched-from}
-use Rattle.master.specs.Driver.{setup}
+use Rattle.master.specs.Driver.{setup, reason-of}
 use Rattle.master.specs.Blocking.{read-blocking-internal}
 use Rattle.master.specs.Async.{is-empty, read-async-internal}
 use Rattle.master.specs.Operations.{Operation, writes, reads, Mode, blocking, async}
@@ -88,8 +88,8 @@ module _ (f : Reply → Reply) (full : f LogFull ≡ LogFull) (dry : f OutOfRead
 unfoldable upto : Mode → Bool → Answer → ℕ → ℕ → List (Operation ℕ) → Does
 upto mode restart a n offset [] = P.ends a
 upto mode restart a n offset (reads len ∷ os) =
-    read-internal mode offset len restart false n (λ _. upto mode restart a n (offset + len) os)
-upto mode restart a n offset (writes bytes ∷ os) = write-internal mode bytes false n (λ _. upto mode restart a n offset os)
+    read-internal reason-of mode offset len restart false n (λ _. upto mode restart a n (offset + len) os)
+upto mode restart a n offset (writes bytes ∷ os) = write-internal reason-of mode bytes false n (λ _. upto mode restart a n offset os)
 
 abbrev begun : Mode → Bool → ℕ → Answer → ℕ → List (Operation ℕ) → Does
 begun mode restart address a n os = setup address n (λ _. upto mode restart a n 0 os)
@@ -143,53 +143,56 @@ module _ (e : Operation ℕ) (short : longer 0 e ≡ e) where
 
 -- a is answered where e is reached
 module _ (e : Operation ℕ) (a : Answer) (mode : Mode) (restart : Bool) (n : ℕ) (k : Unit {0} → Does)
-    (stopped : (offset : ℕ) (os : List (Operation ℕ)) → each-coded mode restart offset (e ∷ os) n k ≡ P.ends a) where
+    (stopped : (offset : ℕ) (os : List (Operation ℕ)) → each-coded reason-of mode restart offset (e ∷ os) n k ≡ P.ends a) where
   coded-upto : (before after : List (Operation ℕ)) (offset : ℕ) → Each NotEmpty before
-      → each-coded mode restart offset (before ++ e ∷ after) n k ≡ upto mode restart a n offset before
+      → each-coded reason-of mode restart offset (before ++ e ∷ after) n k ≡ upto mode restart a n offset before
   unfolding each-coded upto
   coded-upto [] after offset some = stopped offset after
   coded-upto (reads len ∷ os) after offset some =
-      ap (λ (q : Bool). read-internal mode offset len restart q n (λ _. each-coded mode restart (offset + len) (os ++ e ∷ after) n k))
+      ap (λ (q : Bool). read-internal reason-of mode offset len restart q n
+      (λ _. each-coded reason-of mode restart (offset + len) (os ++ e ∷ after) n k))
       (not-last os e after)
-      ∙ ap (λ (t : Does). read-internal mode offset len restart false n (λ _. t)) (coded-upto os after (offset + len) (some .1))
+      ∙ ap (λ (t : Does). read-internal reason-of mode offset len restart false n (λ _. t)) (coded-upto os after (offset + len) (some .1))
   coded-upto (writes [] ∷ os) after offset some = absurd (some .0)
   coded-upto (writes (x ∷ xs) ∷ os) after offset some =
-      ap (λ (q : Bool). write-internal mode (x ∷ xs) q n (λ _. each-coded mode restart offset (os ++ e ∷ after) n k)) (not-last os e after)
-      ∙ ap (λ (t : Does). write-internal mode (x ∷ xs) false n (λ _. t)) (coded-upto os after offset (some .1))
+      ap (λ (q : Bool). write-internal reason-of mode (x ∷ xs) q n
+      (λ _. each-coded reason-of mode restart offset (os ++ e ∷ after) n k)) (not-last os e after)
+      ∙ ap (λ (t : Does). write-internal reason-of mode (x ∷ xs) false n (λ _. t)) (coded-upto os after offset (some .1))
 
   set-up : (address : ℕ) (before after : List (Operation ℕ)) → Each NotEmpty before
       → when (is-blocking mode || not (is-empty (before ++ e ∷ after))) (setup address) n
-      (λ _. each-coded mode restart 0 (before ++ e ∷ after) n k)
+      (λ _. each-coded reason-of mode restart 0 (before ++ e ∷ after) n k)
       ≡ begun mode restart address a n before
   set-up address before after some =
-      ap (λ (q : Bool). when (is-blocking mode || not q) (setup address) n (λ _. each-coded mode restart 0 (before ++ e ∷ after) n k))
+      ap (λ (q : Bool). when (is-blocking mode || not q) (setup address) n
+      (λ _. each-coded reason-of mode restart 0 (before ++ e ∷ after) n k))
       (not-last before e after)
-      ∙ ap (λ (q : Bool). when q (setup address) n (λ _. each-coded mode restart 0 (before ++ e ∷ after) n k)) (sets-up mode)
+      ∙ ap (λ (q : Bool). when q (setup address) n (λ _. each-coded reason-of mode restart 0 (before ++ e ∷ after) n k)) (sets-up mode)
       ∙ ap (λ (t : Does). setup address n (λ _. t)) (coded-upto before after 0 some)
 
 abbrev accepted : Unit {0} → Does
 accepted _ = P.ends Accepted
 
 read-stopped : (mode : Mode) (restart : Bool) (n : ℕ) (k : Unit {0} → Does) (offset : ℕ) (os : List (Operation ℕ))
-    → each-coded mode restart offset (reads 0 ∷ os) n k ≡ P.ends (Refused InvalidReadBufferLength)
+    → each-coded reason-of mode restart offset (reads 0 ∷ os) n k ≡ P.ends (Refused InvalidReadBufferLength)
 unfolding each-coded read-blocking-internal read-async-internal
 read-stopped blocking restart n k offset os = refl
 read-stopped async restart n k offset os = refl
 
 write-stopped : (mode : Mode) (restart : Bool) (n : ℕ) (k : Unit {0} → Does) (offset : ℕ) (os : List (Operation ℕ))
-    → each-coded mode restart offset (writes [] ∷ os) n k ≡ P.ends (Refused InvalidWriteBufferLength)
+    → each-coded reason-of mode restart offset (writes [] ∷ os) n k ≡ P.ends (Refused InvalidWriteBufferLength)
 unfolding each-coded
 write-stopped mode restart n k offset os = refl
 
 longer-read : (mode : Mode) (restart : Bool) (address n : ℕ) (before after : List (Operation ℕ)) → Each NotEmpty before
-    → longer-transfer mode restart address (before ++ reads 0 ∷ after) n P.ends
+    → longer-transfer reason-of mode restart address (before ++ reads 0 ∷ after) n P.ends
     ≡ begun mode restart address (Refused InvalidReadBufferLength) n before
 unfolding longer-transfer
 longer-read mode restart address n before after some =
     set-up (reads 0) _ mode restart n accepted (read-stopped mode restart n accepted) address before after some
 
 longer-write : (mode : Mode) (restart : Bool) (address n : ℕ) (before after : List (Operation ℕ)) → Each NotEmpty before
-    → longer-transfer mode restart address (before ++ writes [] ∷ after) n P.ends
+    → longer-transfer reason-of mode restart address (before ++ writes [] ∷ after) n P.ends
     ≡ begun mode restart address (Refused InvalidWriteBufferLength) n before
 unfolding longer-transfer
 longer-write mode restart address n before after some =
@@ -198,27 +201,29 @@ longer-write mode restart address n before after some =
 -- ---- the plain transfer up to an empty read
 
 plain-upto : (mode : Mode) (n : ℕ) (k : Unit {0} → Does) (before after : List (Operation ℕ)) (offset : ℕ)
-    → each-operation mode offset (before ++ reads 0 ∷ after) n k ≡ upto mode false (Refused InvalidReadBufferLength) n offset before
+    → each-operation reason-of mode offset (before ++ reads 0 ∷ after) n k ≡ upto mode false
+    (Refused InvalidReadBufferLength) n offset before
 unfolding each-operation upto read-blocking-internal read-async-internal
 plain-upto blocking n k [] after offset = refl
 plain-upto async n k [] after offset = refl
 plain-upto mode n k (reads len ∷ os) after offset =
-    ap (λ (q : Bool). read-internal mode offset len false q n (λ _. each-operation mode (offset + len) (os ++ reads 0 ∷ after) n k))
+    ap (λ (q : Bool). read-internal reason-of mode offset len false q n
+    (λ _. each-operation reason-of mode (offset + len) (os ++ reads 0 ∷ after) n k))
     (not-last os (reads 0) after)
-    ∙ ap (λ (t : Does). read-internal mode offset len false false n (λ _. t)) (plain-upto mode n k os after (offset + len))
+    ∙ ap (λ (t : Does). read-internal reason-of mode offset len false false n (λ _. t)) (plain-upto mode n k os after (offset + len))
 plain-upto mode n k (writes bytes ∷ os) after offset =
-    ap (λ (q : Bool). write-internal mode bytes q n (λ _. each-operation mode offset (os ++ reads 0 ∷ after) n k))
+    ap (λ (q : Bool). write-internal reason-of mode bytes q n (λ _. each-operation reason-of mode offset (os ++ reads 0 ∷ after) n k))
     (not-last os (reads 0) after)
-    ∙ ap (λ (t : Does). write-internal mode bytes false n (λ _. t)) (plain-upto mode n k os after offset)
+    ∙ ap (λ (t : Does). write-internal reason-of mode bytes false n (λ _. t)) (plain-upto mode n k os after offset)
 
 plain-transaction : (mode : Mode) (address n : ℕ) (before after : List (Operation ℕ))
-    → transfer mode address (transaction (before ++ reads 0 ∷ after)) n P.ends
+    → transfer reason-of mode address (transaction (before ++ reads 0 ∷ after)) n P.ends
     ≡ begun mode false address (Refused InvalidReadBufferLength) n before
 unfolding blocking-transaction transaction-async
 plain-transaction blocking address n before after =
     ap (λ (t : Does). setup address n (λ _. t)) (plain-upto blocking n accepted before after 0)
 plain-transaction async address n before after =
-    ap (λ (q : Bool). when (not q) (setup address) n (λ _. each-operation async 0 (before ++ reads 0 ∷ after) n accepted))
+    ap (λ (q : Bool). when (not q) (setup address) n (λ _. each-operation reason-of async 0 (before ++ reads 0 ∷ after) n accepted))
     (not-last before (reads 0) after)
     ∙ ap (λ (t : Does). setup address n (λ _. t)) (plain-upto async n accepted before after 0)
 
@@ -245,16 +250,16 @@ no-empty-write os (o ∷ before) after e some = subst NotEmpty (ap first (sym e)
 longer-form-read : (mode : Mode) (address n : ℕ) (os before after : List (Operation ℕ))
     → os ≡ before ++ reads 0 ∷ after
     → Each NotEmpty before
-    → longer-transfer mode true address os n P.ends ≡ begun mode true address (Refused InvalidReadBufferLength) n before
+    → longer-transfer reason-of mode true address os n P.ends ≡ begun mode true address (Refused InvalidReadBufferLength) n before
 longer-form-read mode address n os before after e some =
-    ap (λ (l : List (Operation ℕ)). longer-transfer mode true address l n P.ends) e
+    ap (λ (l : List (Operation ℕ)). longer-transfer reason-of mode true address l n P.ends) e
     ∙ longer-read mode true address n before after some
 
 -- with no empty write a plain transfer is the longer one on its own operations
 plain-form : (mode : Mode) (address n : ℕ) (t : Transfer ℕ) (before after : List (Operation ℕ))
     → operations-of t ≡ before ++ reads 0 ∷ after
     → Each NotEmpty before
-    → transfer mode address t n P.ends ≡ begun mode (restarts t) address (Refused InvalidReadBufferLength) n before
+    → transfer reason-of mode address t n P.ends ≡ begun mode (restarts t) address (Refused InvalidReadBufferLength) n before
 unfolding blocking-read blocking-write blocking-write-read read-async write-async write-read-async longer-transfer each-coded
 plain-form blocking address n (read len) before after e some = longer-form-read blocking address n _ before after e some
 plain-form async address n (read len) before after e some = longer-form-read async address n _ before after e some
@@ -267,7 +272,7 @@ plain-form blocking address n (write-read (x ∷ xs) len) before after e some =
 plain-form async address n (write-read (x ∷ xs) len) before after e some =
     longer-form-read async address n _ before after e some
 plain-form mode address n (transaction os) before after e some =
-    ap (λ (l : List (Operation ℕ)). transfer mode address (transaction l) n P.ends) e
+    ap (λ (l : List (Operation ℕ)). transfer reason-of mode address (transaction l) n P.ends) e
     ∙ plain-transaction mode address n before after
 
 -- no list ends before one of its operations
@@ -303,9 +308,11 @@ empty-read mode address t before after log readings buffer e some small =
     let n = suc room in
     let os = operations-of t in
     let refusal : Answer = Refused InvalidReadBufferLength in
-    let coded-is : longer-transfer mode (restarts t) address (with-code 0 os) n P.ends ≡ begun mode (restarts t) address refusal n before =
-    ap (λ (l : List (Operation ℕ)). longer-transfer mode (restarts t) address (with-code 0 l) n P.ends) e
-    ∙ ap (λ (l : List (Operation ℕ)). longer-transfer mode (restarts t) address l n P.ends) (code-behind (reads 0) refl before after)
+    let coded-is : longer-transfer reason-of mode (restarts t) address (with-code 0 os) n P.ends ≡ begun mode
+    (restarts t) address refusal n before =
+    ap (λ (l : List (Operation ℕ)). longer-transfer reason-of mode (restarts t) address (with-code 0 l) n P.ends) e
+    ∙ ap (λ (l : List (Operation ℕ)). longer-transfer reason-of mode (restarts t) address l n P.ends)
+    (code-behind (reads 0) refl before after)
     ∙ longer-read mode (restarts t) address n before (with-code 0 after) some
     in
     ap (λ (u : Does). left-by (watched-from (coder address os) P.ends [] u) room readings buffer) coded-is
@@ -330,9 +337,10 @@ empty-write mode address t before after log readings buffer e some small =
     let os = operations-of t in
     let seven : Answer = Refused InvalidReadBufferLength in
     let eight : Answer = Refused InvalidWriteBufferLength in
-    let coded-is : longer-transfer mode (restarts t) address (with-code 0 os) n P.ends ≡ begun mode false address eight n before =
-    ap (λ (l : List (Operation ℕ)). longer-transfer mode (restarts t) address (with-code 0 l) n P.ends) e
-    ∙ ap (λ (l : List (Operation ℕ)). longer-transfer mode (restarts t) address l n P.ends) (code-behind (writes []) refl before after)
+    let coded-is : longer-transfer reason-of mode (restarts t) address (with-code 0 os) n P.ends ≡ begun mode false address eight n before =
+    ap (λ (l : List (Operation ℕ)). longer-transfer reason-of mode (restarts t) address (with-code 0 l) n P.ends) e
+    ∙ ap (λ (l : List (Operation ℕ)). longer-transfer reason-of mode (restarts t) address l n P.ends)
+    (code-behind (writes []) refl before after)
     ∙ longer-write mode (restarts t) address n before (with-code 0 after) some
     ∙ same-restart mode address n t before after eight e
     in

@@ -19,7 +19,7 @@ use Rattle.regs.specs.Fields.{set-field}
 use Rattle.regs.specs.Program.{Outcome, outcome, turns, rounds, behaviour}
 use Rattle.regs.specs.Watched.{watched-from}
 use Rattle.regs.specs.Log.{written-to}
-use Rattle.master.specs.Driver.{setup, tx-fifo-capacity, tx-fifo-full, rx-fifo-len, read-and-clear-abort-reason}
+use Rattle.master.specs.Driver.{setup, tx-fifo-capacity, tx-fifo-full, rx-fifo-len, read-and-clear-abort-reason, reason-of}
 use Rattle.master.specs.Blocking.{read-blocking-bytes, read-blocking-internal, write-blocking-bytes, write-blocking-internal}
 use Rattle.master.specs.Async.{wait-stop-det, queue-batch, fetch-bytes, read-async-internal, fill, write-async-internal}
 use Rattle.master.specs.Operations.{writes, reads, Mode, blocking, async}
@@ -29,7 +29,7 @@ use Rattle.master.specs.Coded.{message, with-code, room-of, ends-in-read
 
 -- what a coded transfer to 0x50 leaves on these readings, with room for so many entries and a buffer of so many bytes
 abbrev left-in : ℕ → Mode → Transfer ℕ → List ℕ → List ℕ → Outcome (Unit {0}) Reply
-left-in room mode t rs buffer = outcome Answered LogFull OutOfReadings (behaviour (coded mode 0x50 t) room) room rs buffer tt
+left-in room mode t rs buffer = outcome Answered LogFull OutOfReadings (behaviour (coded reason-of mode 0x50 t) room) room rs buffer tt
 
 abbrev left : Mode → Transfer ℕ → List ℕ → List ℕ → Outcome (Unit {0}) Reply
 left = left-in 100

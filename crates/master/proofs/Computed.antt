@@ -5,7 +5,7 @@ use mathlib.Core.Path.{_≡_, refl}
 use mathlib.Core.List.{List, [], _∷_}
 use lib.ListN.{replicate}
 use Rattle.regs.specs.declared.access.Entry.the-variants.{Read, Write, Marked}
-use Rattle.regs.specs.declared.answers.AbortReason.the-variants.{NoAcknowledge, ArbitrationLoss, Other}
+use Rattle.regs.specs.declared.answers.AbortReason.the-variants.{NoAcknowledge, ArbitrationLoss, DataNotAcknowledged}
 use Rattle.regs.specs.declared.answers.Refusal.the-variants.{Abort, TxLevelOutOfRange, OverLimits}
 use Rattle.regs.specs.declared.answers.Answer.the-variants.{Accepted, Refused}
 use Rattle.regs.specs.declared.answers.Reply.{Reply}
@@ -16,7 +16,7 @@ use Rattle.regs.specs.Fields.{set-field}
 use Rattle.regs.specs.Program.{Outcome, outcome, turns, rounds, behaviour}
 use Rattle.regs.specs.Log.{written-to}
 use Rattle.bus.specs.Bus.{Sign, START, RESTART, STOP, address-byte, written, read-slot, signs, bus-sequence}
-use Rattle.master.specs.Driver.{setup, tx-fifo-capacity, tx-fifo-full, rx-fifo-len, read-and-clear-abort-reason}
+use Rattle.master.specs.Driver.{setup, tx-fifo-capacity, tx-fifo-full, rx-fifo-len, read-and-clear-abort-reason, reason-of}
 use Rattle.master.specs.Blocking.{read-blocking-bytes, read-blocking-internal, write-blocking-bytes, write-blocking-internal}
 use Rattle.master.specs.Async.{wait-stop-det, queue-batch, fetch-bytes, read-async-internal, fill, write-async-internal}
 use Rattle.master.specs.Operations.{writes, reads, Transfer, read, write, write-read, transaction, Mode}
@@ -28,7 +28,7 @@ use Rattle.master.specs.Sequence.{joined, sequence-from, sequence, told}
 
 -- what a transfer to an address leaves on these readings, with room for 100 entries and a buffer of 3 bytes
 abbrev left : Mode → ℕ → Transfer ℕ → List ℕ → Outcome (Unit {0}) Reply
-left m address x rs = outcome Answered LogFull OutOfReadings (behaviour (transfer m address x) 100) 100 rs (0 ∷ 0 ∷ 0 ∷ []) tt
+left m address x rs = outcome Answered LogFull OutOfReadings (behaviour (transfer reason-of m address x) 100) 100 rs (0 ∷ 0 ∷ 0 ∷ []) tt
 
 -- it is accepted, and makes this sequence
 abbrev Makes : Outcome (Unit {0}) Reply → List Sign → Type 0
@@ -90,9 +90,16 @@ pub record Corners : Type 0 where
   pub second-read-behind : left blocking 0x50 (transaction (reads 1 ∷ writes (0x11 ∷ []) ∷ reads 2 ∷ []))
       (0 ∷ 1 ∷ 0xAA ∷ 0x10 ∷ 0 ∷ 0 ∷ 1 ∷ 0xBB ∷ 0 ∷ 1 ∷ 0xCC ∷ []) .buffer
       ≡ 0xAA ∷ 0xBB ∷ 0xCC ∷ []
-  -- bit 3, a data byte not acknowledged, is no NoAcknowledge; the write still waits for STOP, and clears it
-  pub data-not-acknowledged : left blocking 0x50 (write (0x11 ∷ 0x22 ∷ [])) (0x10 ∷ 8 ∷ 0 ∷ 0x200 ∷ 0 ∷ []) .answer
-      ≡ Answered (Refused (Abort (Other 8)))
+  -- bit 3, a data byte not acknowledged, has a reason of its own, also with bit 12; bits 0 to 2 come first
+  pub data-not-acknowledged : (left blocking 0x50 (write (0x11 ∷ 0x22 ∷ [])) (0x10 ∷ 8 ∷ 0 ∷ 0x200 ∷ 0 ∷ []) .answer
+      ≡ Answered (Refused (Abort (DataNotAcknowledged 8))))
+      × (left blocking 0x50 (write (0x11 ∷ 0x22 ∷ [])) (0x10 ∷ 0x1008 ∷ 0 ∷ 0x200 ∷ 0 ∷ []) .answer
+      ≡ Answered (Refused (Abort (DataNotAcknowledged 0x1008))))
+      × (left blocking 0x50 (write (0x11 ∷ 0x22 ∷ [])) (0x10 ∷ 9 ∷ 0 ∷ 0x200 ∷ 0 ∷ []) .answer
+      ≡ Answered (Refused (Abort NoAcknowledge)))
+  -- the first word that is not 0 decides: 8 and then 1 is the reason of 8
+  pub first-word-decides : left async 0x50 (read 1) (0 ∷ 0 ∷ 8 ∷ 0 ∷ 1 ∷ 0 ∷ 0x200 ∷ 0 ∷ []) .answer
+      ≡ Answered (Refused (Abort (DataNotAcknowledged 8)))
   -- an aborted blocking read returns without clearing STOP_DET
   pub read-not-acknowledged : left blocking 0x50 (read 1) (0 ∷ 0 ∷ 1 ∷ 0 ∷ []) .log
       ≡ Write 0x6C 0 ∷ Write 0x04 0x50 ∷ Write 0x6C 1 ∷ Read 0x74 0 ∷ Write 0x10 0x700 ∷ Read 0x78 0 ∷ Read 0x80 1 ∷ Read 0x54 0 ∷ []
@@ -145,7 +152,8 @@ corners = record {
   write-read-pair = (refl, refl);
   transaction-pair = (refl, refl);
   second-read-behind = refl;
-  data-not-acknowledged = refl;
+  data-not-acknowledged = (refl, refl, refl);
+  first-word-decides = refl;
   read-not-acknowledged = refl;
   late-abort = (refl, refl);
   no-more-than-asked = refl;

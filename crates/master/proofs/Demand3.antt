@@ -29,7 +29,7 @@ use Rattle.bus.specs.declared.Bus.the-variants.{Idle}
 use Rattle.bus.specs.Bus.{Sign}
 use Rattle.crc8.specs.Crc8.{crc8}
 use Rattle.crc8.proofs.Laws.{is-byte}
-use Rattle.master.specs.Driver.{Driver, setup}
+use Rattle.master.specs.Driver.{Driver, setup, reason-of}
 use Rattle.master.specs.Operations.{Operation, writes, reads, Transfer, read, write, write-read, transaction}
 use Rattle.master.specs.Operations.{Mode, blocking, async, operations-of}
 use Rattle.master.specs.Transfer.{blocking-read, blocking-write, blocking-write-read, blocking-transaction}
@@ -111,7 +111,7 @@ flagged (transaction os) = false
 transfer-writes : (mode : Mode) (n a : ℕ) (x : Transfer ℕ) (room : ℕ) (rs b : List ℕ)
     → Each OfBytes (operations-of x)
     → operations-of x ≢ []
-    → Issued a (all-words (flagged x) (operations-of x)) (after (transfer mode a x n ends) room rs b)
+    → Issued a (all-words (flagged x) (operations-of x)) (after (transfer reason-of mode a x n ends) room rs b)
 unfolding blocking-read blocking-write blocking-write-read blocking-transaction read-async write-async
     write-read-async transaction-async all-words
 transfer-writes blocking n a (read len) room rs b bytes some =

@@ -8,7 +8,7 @@ use lib.Dec.{eqb, T}
 use lib.ListN.{set}
 use Rattle.regs.specs.declared.access.Entry.{Entry}
 use Rattle.regs.specs.declared.access.Entry.the-variants.{Read, Write, Marked}
-use Rattle.regs.specs.declared.answers.AbortReason.the-variants.{NoAcknowledge, ArbitrationLoss, TxNotEmpty, Other}
+use Rattle.regs.specs.declared.answers.AbortReason.the-variants.{NoAcknowledge, ArbitrationLoss, TxNotEmpty, Other, DataNotAcknowledged}
 use Rattle.regs.specs.declared.answers.Refusal.{Refusal}
 use Rattle.regs.specs.declared.answers.Refusal.the-variants.{FrequencyTooHigh, FrequencyZero, ClockOutOfRange}
 use Rattle.regs.specs.declared.answers.Refusal.the-variants.{ClockTooFast, ClockTooSlow, AddressOutOfRange}
@@ -94,6 +94,7 @@ numbered (Abort NoAcknowledge) e = omega arith
 numbered (Abort ArbitrationLoss) e = omega arith
 numbered (Abort (TxNotEmpty n)) e = omega arith
 numbered (Abort (Other w)) e = omega arith
+numbered (Abort (DataNotAcknowledged w)) e = omega arith
 numbered (TxLevelOutOfRange level) e = omega arith
 numbered InvalidResponseBufferLength e = omega arith
 numbered (PartialWrite n) e = omega arith

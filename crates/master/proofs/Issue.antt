@@ -13,7 +13,7 @@ use Rattle.regs.specs.Fields.{cmd, command-word, level}
 use Rattle.regs.specs.Log.{Each}
 use Rattle.regs.specs.Program as P
 use Rattle.regs.specs.Program.{if_then_else_, _>>=_, done, by-turn, rounds, pending, ready, polled, ok, err}
-use Rattle.master.specs.Driver.{Driver, Tried, try, rx-fifo-len}
+use Rattle.master.specs.Driver.{Driver, Tried, try, rx-fifo-len, reason-of}
 use Rattle.master.specs.Blocking.{read-blocking-bytes, read-blocking-internal, write-blocking-bytes, write-blocking-internal}
 use Rattle.master.specs.Async.{is-empty, queue-batch, batch-come, batch-poll, stop-poll, wait-stop-det}
 use Rattle.master.specs.Async.{space-poll, fetch-bytes, read-round, read-async-internal, Filled, break-xmit}
@@ -71,7 +71,8 @@ ruleset quiet = (
 
 module _ (offset len : ℕ) (restart stop : Bool) (rest : List ℕ) (n : ℕ) (k : Unit {0} → Does) (done : (j : ℕ) → Emits (k tt) j j rest) where
   bytes-read : (left i j : ℕ) → i + left ≡ len
-      → Emits (read-blocking-bytes offset (len - 1) restart stop i left n k) j j (read-words (restart && eqb i 0) stop left ++ rest)
+      → Emits (read-blocking-bytes reason-of offset (len - 1) restart stop i left n k) j j
+      (read-words (restart && eqb i 0) stop left ++ rest)
   unfolding read-blocking-bytes read-words
   bytes-read zero i j e = done j
   bytes-read (suc left) i j e =
@@ -82,7 +83,7 @@ module _ (offset len : ℕ) (restart stop : Bool) (rest : List ℕ) (n : ℕ) (k
 
 module _ (len : ℕ) (stop : Bool) (rest : List ℕ) (n : ℕ) (k : Unit {0} → Does) (j : ℕ) (done : Emits (k tt) j j rest) where
   bytes-written : (bs : List ℕ) → Bytes bs → (i : ℕ) → i + length bs ≡ len
-      → Emits (write-blocking-bytes len stop i bs n k) j j (write-words stop bs ++ rest)
+      → Emits (write-blocking-bytes reason-of len stop i bs n k) j j (write-words stop bs ++ rest)
   unfolding write-blocking-bytes write-words
   bytes-written [] small i e = done
   bytes-written (b ∷ bs) small i e =
@@ -130,7 +131,7 @@ module _ (batch i t : ℕ) (due : List ℕ) (n : ℕ) (g : Driver (Unit {0})) (q
     (aborted : (reason : AbortReason) → Emits (k (err reason)) i t due)
     (come : (v : ℕ) → batch ≤ v → v + t ≤ i → Emits (k (ok v)) i t due) where
   abbrev waits : ℕ → Does
-  waits left = rounds left n (λ (_ : Unit {0}). batch-poll batch >>= polled g) tt k
+  waits left = rounds left n (λ (_ : Unit {0}). batch-poll reason-of batch >>= polled g) tt k
 
   batch-waited : (left : ℕ) → Emits (waits left) i t due
   unfolding rounds rx-fifo-len
@@ -152,7 +153,7 @@ module _ (offset len : ℕ) (restart stop : Bool) (rest : List ℕ) (n : ℕ) (k
     (aborted : (reason : AbortReason) (i t : ℕ) (due : List ℕ) → Emits (k (err reason)) i t due)
     (done : (j : ℕ) → Emits (k (ok tt)) j j rest) where
   rounds-read : (left r i : ℕ) → r ≤ len
-      → Emits (rounds left n (read-round offset len restart stop) (record { remaining = r; remaining-queue = r }) k)
+      → Emits (rounds left n (read-round reason-of offset len restart stop) (record { remaining = r; remaining-queue = r }) k)
       i i (last-words len restart stop rest r)
   unfolding rounds read-words
   rounds-read zero r i fits = tt
@@ -184,24 +185,26 @@ module _ (stop : Bool) (rest : List ℕ) (n j : ℕ) where
   module _ (k : Tried (Unit {0}) → Does)
       (aborted : (reason : AbortReason) (due : List ℕ) → Emits (k (err reason)) j j due)
       (ended : Emits (k (ok tt)) j j rest) where
-    rounds-written : (left : ℕ) (bs : List ℕ) → Bytes bs → Emits (rounds left n (xmit stop) bs k) j j (write-words stop bs ++ rest)
+    rounds-written : (left : ℕ) (bs : List ℕ) → Bytes bs → Emits (rounds left n (xmit reason-of stop) bs k) j j
+        (write-words stop bs ++ rest)
     unfolding rounds
     rounds-written zero bs small = tt
     rounds-written (suc left) bs small = quiet-capacity n _ j j _ (λ space. filled _ ended (λ cs small.
-        quiet-wait-on tt (λ _. space-poll) _ (λ _. quiet-space-poll) (λ n k i t due h. (refl, λ v _. (refl, h tt)))
+        quiet-wait-on tt (λ _. (space-poll reason-of)) _ (λ _. quiet-space-poll) (λ n k i t due h. (refl, λ v _. (refl, h tt)))
         n _ j j _ (gone-on cs (rounds-written left cs small))) space bs small)
       where
-        gone-on : (cs : List ℕ) → Emits (rounds left n (xmit stop) cs k) j j (write-words stop cs ++ rest) → (res : Tried (Unit {0}))
-            → Emits (by-turn (go-on cs res) (λ ds. rounds left n (xmit stop) ds k) k) j j (write-words stop cs ++ rest)
+        gone-on : (cs : List ℕ) → Emits (rounds left n (xmit reason-of stop) cs k) j j (write-words stop cs ++ rest)
+            → (res : Tried (Unit {0}))
+            → Emits (by-turn (go-on cs res) (λ ds. rounds left n (xmit reason-of stop) ds k) k) j j (write-words stop cs ++ rest)
         gone-on cs ih (ok u) = ih
         gone-on cs ih (err reason) = aborted reason _
 
 -- after an abort nothing is accepted
 abort-refused : (reason : AbortReason) (stop : Bool) (n : ℕ) (k : Unit {0} → Does) (i t : ℕ) (due : List ℕ)
-    → Emits (wait-stop-det (err reason) stop n (λ res. try res n k)) i t due
+    → Emits (wait-stop-det reason-of (err reason) stop n (λ res. try res n k)) i t due
 unfolding wait-stop-det
 abort-refused reason stop n k i t due =
-    quiet-wait-on tt (λ _. stop-poll (err reason)) _ (λ _. quiet-stop-poll (err reason))
+    quiet-wait-on tt (λ _. stop-poll reason-of (err reason)) _ (λ _. quiet-stop-poll (err reason))
     (λ n k i t due h v _. (refl, h tt)) n _ i t due (λ res v _. tt)
 
 -- both modes together
@@ -209,14 +212,14 @@ abort-refused reason stop n k i t due =
 -- a read issues its words, and takes as many bytes as it issues words
 pub read-issues : (mode : Mode) (offset len : ℕ) (restart stop : Bool) (rest : List ℕ) (n : ℕ) (k : Unit {0} → Does)
     → ((j : ℕ) → Emits (k tt) j j rest)
-    → (i : ℕ) → Emits (read-internal mode offset len restart stop n k) i i (read-words restart stop len ++ rest)
+    → (i : ℕ) → Emits (read-internal reason-of mode offset len restart stop n k) i i (read-words restart stop len ++ rest)
 unfolding read-blocking-internal read-async-internal
 read-issues blocking offset len restart stop rest n k ended i =
     let issues = rw (and-true restart) at (bytes-read offset len restart stop rest n k ended len 0 i (omega arith)) in search emits-when
 read-issues async offset len restart stop rest n k ended i =
-    let stopped : (j : ℕ) → Emits (wait-stop-det (ok tt) stop n (λ res. try res n k)) j j rest = λ j. search quiet in
+    let stopped : (j : ℕ) → Emits (wait-stop-det reason-of (ok tt) stop n (λ res. try res n k)) j j rest = λ j. search quiet in
     let issues = rw (eq-eqb len len refl, and-true restart) at
-    (rounds-read offset len restart stop rest n (λ r. wait-stop-det r stop n (λ res. try res n k))
+    (rounds-read offset len restart stop rest n (λ r. wait-stop-det reason-of r stop n (λ res. try res n k))
     (λ reason i t due. abort-refused reason stop n k i t due) stopped n len i (omega arith)) in
     search emits-when
 
@@ -224,12 +227,12 @@ pub write-issues : (mode : Mode) (bs : List ℕ)
     → Bytes bs
     → (stop : Bool) (rest : List ℕ) (n : ℕ) (k : Unit {0} → Does) (i : ℕ)
     → Emits (k tt) i i rest
-    → Emits (write-internal mode bs stop n k) i i (write-words stop bs ++ rest)
+    → Emits (write-internal reason-of mode bs stop n k) i i (write-words stop bs ++ rest)
 unfolding write-blocking-internal write-async-internal
 write-issues blocking bs small stop rest n k i ended =
     let issues = bytes-written (length bs) stop rest n k i ended bs small 0 (omega arith) in search emits-when
 write-issues async bs small stop rest n k i ended =
-    let stopped : Emits (wait-stop-det (ok tt) stop n (λ res. try res n k)) i i rest = search quiet in
+    let stopped : Emits (wait-stop-det reason-of (ok tt) stop n (λ res. try res n k)) i i rest = search quiet in
     rounds-written stop rest n i _ (λ reason due. abort-refused reason stop n k i i due) stopped n bs small
 
 -- a transaction's operations issue their words, with no RESTART flag and one STOP
@@ -237,7 +240,7 @@ pub operations-issue : (mode : Mode) (n : ℕ) (k : Unit {0} → Does)
     → ((j : ℕ) → Emits (k tt) j j [])
     → (os : List (Operation ℕ))
     → Each OfBytes os
-    → (offset i : ℕ) → Emits (each-operation mode offset os n k) i i (all-words false os)
+    → (offset i : ℕ) → Emits (each-operation reason-of mode offset os n k) i i (all-words false os)
 unfolding each-operation all-words
 operations-issue mode n k ended [] bytes offset i = ended i
 operations-issue mode n k ended (reads len ∷ os) bytes offset i =

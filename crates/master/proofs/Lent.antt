@@ -8,7 +8,7 @@ use lib.ListN.{take, drop}
 use Rattle.regs.specs.declared.answers.Answer.{Answer}
 use Rattle.regs.specs.Program.{if_then_else_}
 use Rattle.regs.specs.Log.{Each}
-use Rattle.master.specs.Driver.{Driver}
+use Rattle.master.specs.Driver.{Driver, reason-of}
 use Rattle.master.specs.Operations.{writes, reads, Transfer}
 use Rattle.master.specs.Operations.{Mode, WRITE, listed}
 use Rattle.master.specs.Transfer.{transfer, within}
@@ -26,8 +26,8 @@ same-arguments mode address (writes-then-reads bytes buffer) = refl
 same-arguments mode address (transacts kinds lengths bytes buffer) = refl
 
 abbrev pub transfer-by : Bool → Mode → ℕ → Transfer ℕ → Driver Answer
-transfer-by false mode address t = transfer mode address t
-transfer-by true mode address t = coded mode address t
+transfer-by false mode address t = transfer reason-of mode address t
+transfer-by true mode address t = coded reason-of mode address t
 
 pub program-within : (pec : Bool) (mode : Mode) (address : ℕ) (lent : Lent)
     → program-by pec mode address lent ≡ within (within-limits lent) (transfer-by pec mode address (arguments lent))

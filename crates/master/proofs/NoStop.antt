@@ -9,7 +9,7 @@ use mathlib.Core.Path.{_≡_}
 use lib.Dec.{eqb, ltb, T, eqb·suc-zero}
 use lib.ListN.{length}
 use Rattle.regs.specs.declared.answers.AbortReason.{AbortReason}
-use Rattle.regs.specs.declared.answers.AbortReason.the-variants.{NoAcknowledge, ArbitrationLoss, TxNotEmpty, Other}
+use Rattle.regs.specs.declared.answers.AbortReason.the-variants.{NoAcknowledge, ArbitrationLoss, TxNotEmpty, Other, DataNotAcknowledged}
 use Rattle.regs.specs.declared.answers.Answer.{Answer}
 use Rattle.regs.specs.declared.answers.Answer.the-variants.{Refused}
 use Rattle.regs.specs.declared.answers.Refusal.{Refusal}
@@ -20,7 +20,7 @@ use Rattle.regs.specs.Fields.{command-word, cmd, stop}
 use Rattle.regs.specs.Log.{Each}
 use Rattle.regs.specs.Program as P
 use Rattle.regs.specs.Program.{if_then_else_, when, turns, Turn, again, done, by-turn, rounds, Poll, pending, ready, polled, ok, err}
-use Rattle.master.specs.Driver.{Driver, Tried, try, while-turn, setup, tx-fifo-capacity, tx-fifo-full, rx-fifo-len}
+use Rattle.master.specs.Driver.{Driver, Tried, try, while-turn, setup, tx-fifo-capacity, tx-fifo-full, rx-fifo-len, reason-of}
 use Rattle.master.specs.Driver.{read-and-clear-abort-reason}
 use Rattle.master.specs.Blocking.{read-blocking-bytes, read-blocking-internal, write-blocking-bytes, write-blocking-internal}
 use Rattle.master.specs.Async.{wait-stop-det, Counts, queue-batch, fetch-bytes, take-batch, read-round, read-async-internal}
@@ -63,6 +63,7 @@ other-number NoAcknowledge = tt
 other-number ArbitrationLoss = tt
 other-number (TxNotEmpty n) = tt
 other-number (Other w) = tt
+other-number (DataNotAcknowledged w) = tt
 
 -- what the rounds of an async write hand on
 abbrev SmallFilled : Filled → Type 0
@@ -166,7 +167,7 @@ module _ (a b : Answer) (L : ℕ) where
   unfolding rx-fifo-len
   len-kept = search alike
 
-  abort-kept : Kept read-and-clear-abort-reason
+  abort-kept : Kept (read-and-clear-abort-reason reason-of)
   unfolding read-and-clear-abort-reason
   abort-kept = search alike
 
@@ -180,14 +181,14 @@ module _ (a b : Answer) (L : ℕ) where
 
   ruleset parts = (alike, capacity-kept, full-kept, len-kept, abort-kept, try-kept, while-turn-kept)
 
-  stop-det-kept : (had-abort : Tried (Unit {0})) (do-stop : Bool) → Kept (wait-stop-det had-abort do-stop)
+  stop-det-kept : (had-abort : Tried (Unit {0})) (do-stop : Bool) → Kept (wait-stop-det reason-of had-abort do-stop)
   unfolding wait-stop-det
   stop-det-kept had-abort do-stop = search parts depth 20
 
   -- ---- blocking
 
   bytes-read-kept : (offset lastindex : ℕ) (restart stop : Bool) (left i : ℕ) → offset + i + left ≤ L
-      → Kept (read-blocking-bytes offset lastindex restart stop i left)
+      → Kept (read-blocking-bytes reason-of offset lastindex restart stop i left)
   unfolding read-blocking-bytes
   bytes-read-kept offset lastindex restart stop zero i most = search alike
   bytes-read-kept offset lastindex restart stop (suc left) i most =
@@ -196,7 +197,7 @@ module _ (a b : Answer) (L : ℕ) where
       let word = read-word (stop && eqb i lastindex) (restart && eqb i 0) in
       search parts depth 20
 
-  bytes-written-kept : (len : ℕ) (bs : List ℕ) (i : ℕ) → AllSmall bs → Kept (write-blocking-bytes len false i bs)
+  bytes-written-kept : (len : ℕ) (bs : List ℕ) (i : ℕ) → AllSmall bs → Kept (write-blocking-bytes reason-of len false i bs)
   unfolding write-blocking-bytes
   bytes-written-kept len [] i small = search alike
   bytes-written-kept len (x ∷ bs) i small =
@@ -227,10 +228,10 @@ module _ (a b : Answer) (L : ℕ) where
       (h : (r : Tried (Unit {0})) → Same (k r) (k′ r)) where
     abbrev from : (Tried (Unit {0}) → Does) → ℕ → ℕ → ℕ → Does
     from j left remaining queue =
-        rounds left n (read-round offset len restart stop) (record { remaining = remaining; remaining-queue = queue }) j
+        rounds left n (read-round reason-of offset len restart stop) (record { remaining = remaining; remaining-queue = queue }) j
 
     abbrev turned : (Tried (Unit {0}) → Does) → ℕ → Turn Counts (Tried (Unit {0})) → Does
-    turned j left w = by-turn w (λ y. rounds left n (read-round offset len restart stop) y j) j
+    turned j left w = by-turn w (λ y. rounds left n (read-round reason-of offset len restart stop) y j) j
 
     take-kept : (left remaining queue : ℕ) → remaining ≤ len
         → ((rest queue : ℕ) → rest ≤ len → Same (from k left rest queue) (from k′ left rest queue))
@@ -274,7 +275,7 @@ module _ (a b : Answer) (L : ℕ) where
 
   space-kept : (f : Filled) → SmallFilled f → (n : ℕ) (k k′ : Turn (List ℕ) (Tried (Unit {0})) → Does)
       → ((w : Turn (List ℕ) (Tried (Unit {0}))) → SmallTurn w → Same (k w) (k′ w))
-      → Same (wait-space f n k) (wait-space f n k′)
+      → Same (wait-space reason-of f n k) (wait-space reason-of f n k′)
   space-kept break-xmit small n k k′ h = h (done (ok tt)) tt
   space-kept (full bs) small n k k′ h = let gone = go-kept bs small k k′ h in search (parts, come-kept) depth 20
 
@@ -289,7 +290,7 @@ module _ (a b : Answer) (L : ℕ) where
 
   xmit-kept : (n : ℕ) (k k′ : Tried (Unit {0}) → Does) → ((r : Tried (Unit {0})) → Same (k r) (k′ r))
       → (left : ℕ) (bs : List ℕ) → AllSmall bs
-      → Same (rounds left n (xmit false) bs k) (rounds left n (xmit false) bs k′)
+      → Same (rounds left n (xmit reason-of false) bs k) (rounds left n (xmit reason-of false) bs k′)
   unfolding rounds
   xmit-kept n k k′ h zero bs small = cut-alike
   xmit-kept n k k′ h (suc left) bs small =
@@ -299,7 +300,7 @@ module _ (a b : Answer) (L : ℕ) where
   -- ---- both modes together
 
   pub read-kept : (mode : Mode) (offset m : ℕ) (restart stop : Bool) → offset + suc m ≤ L
-      → Kept (read-internal mode offset (suc m) restart stop)
+      → Kept (read-internal reason-of mode offset (suc m) restart stop)
   unfolding read-blocking-internal read-async-internal
   read-kept blocking offset m restart stop most n k k′ h =
       rw (eqb·suc-zero m) (bytes-read-kept offset (suc m - 1) restart stop (suc m) 0 (omega arith) n k k′ h)
@@ -307,7 +308,7 @@ module _ (a b : Answer) (L : ℕ) where
       rw (eqb·suc-zero m) (rounds-kept offset (suc m) restart stop n _ _ most
       (λ r. stop-det-kept r stop n _ _ (λ res. try-kept res n k k′ h)) n (suc m) (suc m) (omega arith))
 
-  pub write-kept : (mode : Mode) (bs : List ℕ) → AllSmall bs → Kept (write-internal mode bs false)
+  pub write-kept : (mode : Mode) (bs : List ℕ) → AllSmall bs → Kept (write-internal reason-of mode bs false)
   unfolding write-blocking-internal write-async-internal
   write-kept blocking bs small n k k′ h = let bytes = bytes-written-kept (length bs) bs 0 small in search alike
   write-kept async bs small n k k′ h =

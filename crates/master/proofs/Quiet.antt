@@ -7,7 +7,7 @@ use lib.Dec.{eqb}
 use Rattle.regs.specs.Registers.{DATA-CMD}
 use Rattle.regs.specs.Program.{if_then_else_, when, turns, while, Turn, again, done, by-turn, rounds, loop, Poll}
 use Rattle.regs.specs.Program.{pending, ready, polled, wait-on, ok, err}
-use Rattle.master.specs.Driver.{Driver, Tried, try, while-turn, while-test, tx-fifo-capacity, tx-fifo-full}
+use Rattle.master.specs.Driver.{Driver, Tried, try, while-turn, while-test, tx-fifo-capacity, tx-fifo-full, reason-of}
 use Rattle.master.specs.Driver.{rx-fifo-len, read-and-clear-abort-reason}
 use Rattle.master.specs.Async.{stop-poll, wait-stop-det, space-come, space-poll}
 use Rattle.master.proofs.Emits.{Does, Emits}
@@ -95,7 +95,7 @@ pub quiet-len : Quiet rx-fifo-len
 unfolding rx-fifo-len
 quiet-len n k i t due h = λ v _. h _
 
-pub quiet-abort : Quiet read-and-clear-abort-reason
+pub quiet-abort : Quiet (read-and-clear-abort-reason reason-of)
 unfolding read-and-clear-abort-reason
 quiet-abort n k i t due h = search emits-if
 
@@ -103,18 +103,18 @@ pub quiet-try : {B : Type 0} (r : Tried B) → Quiet (try r)
 quiet-try (ok b) n k i t due h = h b
 quiet-try (err reason) n k i t due h = tt
 
-pub quiet-space-poll : Quiet space-poll
+pub quiet-space-poll : Quiet (space-poll reason-of)
 quiet-space-poll n k i t due h = quiet-abort n _ i t due come
   where
     come : (a : Tried (Unit {0})) → Emits (space-come a n k) i t due
     come (ok u) = search (quiet-full, emits-if)
     come (err reason) = h _
 
-pub quiet-stop-poll : (had-abort : Tried (Unit {0})) → Quiet (stop-poll had-abort)
+pub quiet-stop-poll : (had-abort : Tried (Unit {0})) → Quiet (stop-poll reason-of had-abort)
 quiet-stop-poll had n k i t due h =
     search (quiet-abort, emits-if)
 
-pub quiet-wait-stop-det : (had-abort : Tried (Unit {0})) (do-stop : Bool) → Quiet (wait-stop-det had-abort do-stop)
+pub quiet-wait-stop-det : (had-abort : Tried (Unit {0})) (do-stop : Bool) → Quiet (wait-stop-det reason-of had-abort do-stop)
 unfolding wait-stop-det
 quiet-wait-stop-det had stop n k i t due h =
     search (emits-if, quiet-wait-on, quiet-stop-poll)

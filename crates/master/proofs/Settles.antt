@@ -21,7 +21,7 @@ use Rattle.regs.specs.Log.{Each, expected}
 use Rattle.regs.specs.Program.{if_then_else_, ends, stores, Outcome, outcome, logged}
 use Rattle.regs.specs.Watched.{watched-from, watched}
 use Rattle.regs.proofs.Watched.{set-beyond}
-use Rattle.master.specs.Driver.{Driver}
+use Rattle.master.specs.Driver.{Driver, reason-of}
 use Rattle.master.specs.Operations.{Operation, Mode, operations-of}
 use Rattle.master.specs.Coded.{code-of, with-code, room-of, ends-in-read, is-right, coder, longer-transfer, restarts}
 use Rattle.master.specs.CodedLaws.{Small, tested-reply}
@@ -257,7 +257,7 @@ whole address (o ∷ os) s room rs b size =
 -- of any operations, with and without RESTART
 module _ (mode : Mode) (restart : Bool) (address : ℕ) (os : List (Operation ℕ)) (log readings buffer : List ℕ) where
   abbrev longer-one : Driver Answer
-  longer-one = longer-transfer mode restart address (with-code 0 os)
+  longer-one = longer-transfer reason-of mode restart address (with-code 0 os)
 
   pub settles-each : Each Small os → length buffer ≡ room-of os
       → expected (watched (coder address os) longer-one) log readings buffer tt

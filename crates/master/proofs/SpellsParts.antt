@@ -18,7 +18,7 @@ use Rattle.regs.specs.Log.{Each}
 use Rattle.regs.specs.Program as P
 use Rattle.regs.specs.Program.{Turn, by-turn, rounds, ok, err}
 use Rattle.regs.proofs.Tests.{by-test}
-use Rattle.master.specs.Driver.{Tried}
+use Rattle.master.specs.Driver.{Tried, reason-of}
 use Rattle.master.specs.Blocking.{read-blocking-bytes, read-blocking-internal, write-blocking-bytes, write-blocking-internal}
 use Rattle.master.specs.Async.{is-empty, fetch-bytes, take-batch, read-round, read-async-internal}
 use Rattle.master.specs.Async.{Filled, break-xmit, full, fill, go-on, wait-space, xmit, write-async-internal}
@@ -94,7 +94,7 @@ module _ (os : List (Operation ℕ)) (n end : ℕ) (k : Unit {0} → Does)
     (h : (c : ToCome) → Untaken os 0 c → Spells c end (k tt)) where
   bytes-spelt : (offset lastindex : ℕ) (restart stop : Bool) (i left : ℕ) {c : ToCome} → Untaken os left c
       → offset + i + left ≡ end
-      → Spells c (offset + i) (read-blocking-bytes offset lastindex restart stop i left n k)
+      → Spells c (offset + i) (read-blocking-bytes reason-of offset lastindex restart stop i left n k)
   unfolding read-blocking-bytes
   bytes-spelt offset lastindex restart stop i zero u e = let same : offset + i ≡ end = omega arith in rw same (h _ u)
   bytes-spelt offset lastindex restart stop i (suc left) {c} u e =
@@ -110,7 +110,7 @@ module _ (os : List (Operation ℕ)) (offset len : ℕ) (restart stop : Bool) (n
     (h : (c : ToCome) → Untaken os 0 c → Spells c (offset + len) (k (ok tt))) where
   abbrev from : ℕ → ℕ → ℕ → Does
   from left remaining queue =
-      rounds left n (read-round offset len restart stop) (record { remaining = remaining; remaining-queue = queue }) k
+      rounds left n (read-round reason-of offset len restart stop) (record { remaining = remaining; remaining-queue = queue }) k
 
   take-spelt : (left remaining queue : ℕ) → remaining ≤ len
       → ((rest queue : ℕ) (c : ToCome) → rest ≤ len → Untaken os rest c
@@ -118,7 +118,7 @@ module _ (os : List (Operation ℕ)) (offset len : ℕ) (restart stop : Bool) (n
       → (c : ToCome) → Untaken os remaining c
       → (batch : ℕ) (res : Tried ℕ) → Spells c (offset + (len - remaining))
       (take-batch offset len remaining (queue - batch) res n
-      (λ t. by-turn t (λ y. rounds left n (read-round offset len restart stop) y k) k))
+      (λ t. by-turn t (λ y. rounds left n (read-round reason-of offset len restart stop) y k) k))
   take-spelt left remaining queue fits ih c u batch (err reason) = ended reason c (offset + (len - remaining))
   take-spelt left remaining queue fits ih c u batch (ok rx) =
       batch-spelt os n _ _ _ (λ c u. ih _ _ c (omega arith) u) (offset + (len - remaining)) _ remaining u
@@ -139,7 +139,7 @@ module _ (os : List (Operation ℕ)) (offset len : ℕ) (restart stop : Bool) (n
 read-spelt : (mode : Mode) (offset len : ℕ) (restart stop : Bool) (os : List (Operation ℕ)) (n : ℕ) (k : Unit {0} → Does)
     → ((c : ToCome) → Untaken os 0 c → Spells c (offset + suc len) (k tt))
     → (c : ToCome) → Untaken os (suc len) c
-    → Spells c offset (read-internal mode offset (suc len) restart stop n k)
+    → Spells c offset (read-internal reason-of mode offset (suc len) restart stop n k)
 unfolding read-blocking-internal read-async-internal
 read-spelt blocking offset len restart stop os n k h c u =
     let start : offset + 0 ≡ offset = omega arith in
@@ -153,7 +153,7 @@ read-spelt async offset len restart stop os n k h c u =
     rw (eqb·suc-zero len) taken
 
 no-bytes : (mode : Mode) (offset : ℕ) (restart stop : Bool) (n : ℕ) (k : Unit {0} → Does) (c : ToCome)
-    → Spells c offset (read-internal mode offset 0 restart stop n k)
+    → Spells c offset (read-internal reason-of mode offset 0 restart stop n k)
 unfolding read-blocking-internal read-async-internal
 no-bytes blocking offset restart stop n k c = refused-spells
 no-bytes async offset restart stop n k c = refused-spells
@@ -182,7 +182,7 @@ module _ (i n : ℕ) where
   bytes-sent : {os : List (Operation ℕ)} (len : ℕ) (k : Unit {0} → Does)
       → ((c : ToCome) → Unsent os [] c → Spells c i (k tt))
       → {bs : List ℕ} {c : ToCome} → Unsent os bs c → (j : ℕ) → j + length bs ≡ len
-      → Spells c i (write-blocking-bytes len (is-empty os) j bs n k)
+      → Spells c i (write-blocking-bytes reason-of len (is-empty os) j bs n k)
   unfolding write-blocking-bytes
   bytes-sent len k h code-sent j e = h _ code-sent
   bytes-sent len k h send-code j e =
@@ -208,31 +208,31 @@ module _ (i n : ℕ) where
 
   space-spelt : (c : ToCome) (bs : List ℕ) (k : Turn (List ℕ) (Tried (Unit {0})) → Does)
       → ((res : Tried (Unit {0})) → Spells c i (k (go-on bs res)))
-      → Spells c i (wait-space (full bs) n k)
+      → Spells c i (wait-space reason-of (full bs) n k)
   space-spelt c bs k h = search (parts, come-calm) depth 20
 
 module _ (os : List (Operation ℕ)) (i n : ℕ) (k : Tried (Unit {0}) → Does)
     (ended : (reason : AbortReason) (c : ToCome) → Spells c i (k (err reason)))
     (h : (c : ToCome) → Unsent os [] c → Spells c i (k (ok tt))) where
   gone-on : (left : ℕ) (bs : List ℕ) (c : ToCome)
-      → Spells c i (rounds left n (xmit (is-empty os)) bs k)
+      → Spells c i (rounds left n (xmit reason-of (is-empty os)) bs k)
       → (res : Tried (Unit {0}))
-      → Spells c i (by-turn (go-on bs res) (λ y. rounds left n (xmit (is-empty os)) y k) k)
+      → Spells c i (by-turn (go-on bs res) (λ y. rounds left n (xmit reason-of (is-empty os)) y k) k)
   gone-on left bs c ih (ok u) = ih
   gone-on left bs c ih (err reason) = ended reason c
 
   rounds-sent : (left : ℕ) (bs : List ℕ) (c : ToCome) → Unsent os bs c
-      → Spells c i (rounds left n (xmit (is-empty os)) bs k)
+      → Spells c i (rounds left n (xmit reason-of (is-empty os)) bs k)
   unfolding rounds
   rounds-sent zero bs c u = cut-spells
   rounds-sent (suc left) bs c u = capacity-calm c i n _ (λ space. fill-spelt i n _ h
-      (λ bs c u. space-spelt i n c bs (λ t. by-turn t (λ y. rounds left n (xmit (is-empty os)) y k) k)
+      (λ bs c u. space-spelt i n c bs (λ t. by-turn t (λ y. rounds left n (xmit reason-of (is-empty os)) y k) k)
       (gone-on left bs c (rounds-sent left bs c u))) space bs c u)
 
 write-spelt : (mode : Mode) (os : List (Operation ℕ)) (x : ℕ) (xs : List ℕ) (i n : ℕ) (k : Unit {0} → Does)
     → ((c : ToCome) → Unsent os [] c → Spells c i (k tt))
     → (c : ToCome) → Unsent os (x ∷ xs) c
-    → Spells c i (write-internal mode (x ∷ xs) (is-empty os) n k)
+    → Spells c i (write-internal reason-of mode (x ∷ xs) (is-empty os) n k)
 unfolding write-blocking-internal write-async-internal
 write-spelt blocking os x xs i n k h c u =
     rw (eqb·suc-zero (length xs)) (bytes-sent i n (length (x ∷ xs)) k h u 0 (omega arith))
@@ -259,7 +259,7 @@ after-code-sent i t h _ code-sent = h
 
 module _ (mode : Mode) (restart : Bool) (n : ℕ) (k : Unit {0} → Does) (h : (i : ℕ) → Spells nothing i (k tt)) where
   operations-spelt : (os : List (Operation ℕ)) (last offset : ℕ) (o : Operation ℕ) → Each Small (o ∷ os)
-      → Spells (data-and-code last (o ∷ os)) offset (each-coded mode restart offset (with-code 0 (o ∷ os)) n k)
+      → Spells (data-and-code last (o ∷ os)) offset (each-coded reason-of mode restart offset (with-code 0 (o ∷ os)) n k)
   unfolding each-coded with-code
   operations-spelt [] last offset (writes []) small = refused-spells
   operations-spelt [] last offset (writes (x ∷ xs)) small =
@@ -277,7 +277,7 @@ module _ (mode : Mode) (restart : Bool) (n : ℕ) (k : Unit {0} → Does) (h : (
       (then-reads p os _ _ (operations-spelt os READ (offset + suc m) p (small .1))) _ a-byte)
 
 pub spells-longer : (mode : Mode) (restart : Bool) (address n : ℕ) (os : List (Operation ℕ)) → Each Small os
-    → Spells (to-come os) 0 (longer-transfer mode restart address (with-code 0 os) n P.ends)
+    → Spells (to-come os) 0 (longer-transfer reason-of mode restart address (with-code 0 os) n P.ends)
 unfolding longer-transfer each-coded with-code
 spells-longer blocking restart address n [] small = setup-calm address nothing 0 n _ (λ _. accepted-spells)
 spells-longer async restart address n [] small = accepted-spells

@@ -9,7 +9,8 @@ use Rattle.regs.specs.Registers.{DATA-CMD, INTR-MASK, RAW-INTR-STAT, RX-TL, TX-
 use Rattle.regs.specs.Fields.{command-word, dat, stop-det, set-m-rx-full, set-m-tx-empty, set-m-tx-abrt, set-m-stop-det}
 use Rattle.regs.specs.Program.{if_then_else_, _>>=_, _>>_, return, exit, get, put, modify, store, skip, when, ok}
 use Rattle.regs.specs.Program.{err, Turn, again, done, loop, Poll, pending, ready, wait-on}
-use Rattle.master.specs.Driver.{Driver, Tried, is-err, try, tx-fifo-capacity, tx-fifo-full, rx-fifo-len, read-and-clear-abort-reason}
+use Rattle.master.specs.Driver.{Driver, Reasons, Tried, is-err, try, tx-fifo-capacity, tx-fifo-full}
+use Rattle.master.specs.Driver.{rx-fifo-len, read-and-clear-abort-reason}
 
 -- ---- fn wait_stop_det
 
@@ -21,20 +22,20 @@ both (err reason) b = err reason
 -- the closure that `wait_stop_det` polls. All words are queued by now, but the
 -- controller may still be sending them, and an abort may come from one of those;
 -- after a first abort only the STOP that the controller then sends is waited for.
-abbrev pub stop-poll : Tried (Unit {0}) → Driver (Poll (Unit {0}) (Tried (Unit {0})))
-stop-poll had-abort = do
-  abort ← read-and-clear-abort-reason
+abbrev pub stop-poll : Reasons → Tried (Unit {0}) → Driver (Poll (Unit {0}) (Tried (Unit {0})))
+stop-poll reason had-abort = do
+  abort ← read-and-clear-abort-reason reason
   if not (is-err had-abort) && is-err abort
       then return (ready abort)
       else (do
         stat ← get RAW-INTR-STAT
         if stop-det stat then return (ready (ok tt)) else return (pending tt))
 
-unfoldable pub wait-stop-det : Tried (Unit {0}) → Bool → Driver (Tried (Unit {0}))
-wait-stop-det had-abort do-stop =
+unfoldable pub wait-stop-det : Reasons → Tried (Unit {0}) → Bool → Driver (Tried (Unit {0}))
+wait-stop-det reason had-abort do-stop =
     if is-err had-abort || do-stop
     then (do
-      had-abort2 ← wait-on tt (λ _. stop-poll had-abort) (modify INTR-MASK (λ w. set-m-tx-abrt (set-m-stop-det w)))
+      had-abort2 ← wait-on tt (λ _. stop-poll reason had-abort) (modify INTR-MASK (λ w. set-m-tx-abrt (set-m-stop-det w)))
       get CLR-STOP-DET
       return (both had-abort had-abort2))
     else return had-abort
@@ -63,10 +64,10 @@ abbrev pub batch-come : ℕ → ℕ → Tried (Unit {0}) → Poll (Unit {0}) (Tr
 batch-come batch rxfifo (err reason) = ready (err reason)
 batch-come batch rxfifo (ok _) = if not (ltb rxfifo batch) then ready (ok rxfifo) else pending tt
 
-abbrev pub batch-poll : ℕ → Driver (Poll (Unit {0}) (Tried ℕ))
-batch-poll batch = do
+abbrev pub batch-poll : Reasons → ℕ → Driver (Poll (Unit {0}) (Tried ℕ))
+batch-poll reason batch = do
   rxfifo ← rx-fifo-len
-  abort ← read-and-clear-abort-reason
+  abort ← read-and-clear-abort-reason reason
   return (batch-come batch rxfifo abort)
 
 -- `for b in &mut buffer[received..received + rxbytes]`, into the lent buffer from `at` on
@@ -87,25 +88,25 @@ take-batch offset len remaining remaining-queue (ok rxfifo) = do
   return (again (record { remaining = remaining - rxbytes; remaining-queue = remaining-queue }))
 
 -- `while remaining > 0`: a turn
-abbrev pub read-round : ℕ → ℕ → Bool → Bool → Counts → Driver (Turn Counts (Tried (Unit {0})))
-read-round offset len restart send-stop counts =
+abbrev pub read-round : Reasons → ℕ → ℕ → Bool → Bool → Counts → Driver (Turn Counts (Tried (Unit {0})))
+read-round reason offset len restart send-stop counts =
     if not (ltb 0 (counts .remaining))
     then return (done (ok tt))
     else (do
       tx-fifo-space ← tx-fifo-capacity
       let batch = min (counts .remaining-queue) tx-fifo-space
       queue-batch len restart send-stop batch (counts .remaining-queue)
-      res ← wait-on tt (λ _. batch-poll batch) (do
+      res ← wait-on tt (λ _. batch-poll reason batch) (do
         put RX-TL (batch - 1)
         modify INTR-MASK (λ w. set-m-tx-abrt (set-m-rx-full w)))
       take-batch offset len (counts .remaining) (counts .remaining-queue - batch) res)
 
 -- a read buffer is given by its length and by its offset in the one lent read buffer
-unfoldable pub read-async-internal : ℕ → ℕ → Bool → Bool → Driver (Unit {0})
-read-async-internal offset len restart send-stop = do
+unfoldable pub read-async-internal : Reasons → ℕ → ℕ → Bool → Bool → Driver (Unit {0})
+read-async-internal reason offset len restart send-stop = do
   when (eqb len 0) (exit (Refused InvalidReadBufferLength))
-  abort-reason ← loop (record { remaining = len; remaining-queue = len }) (read-round offset len restart send-stop)
-  res ← wait-stop-det abort-reason send-stop
+  abort-reason ← loop (record { remaining = len; remaining-queue = len }) (read-round reason offset len restart send-stop)
+  res ← wait-stop-det reason abort-reason send-stop
   try res
 
 -- ---- fn write_async_internal
@@ -135,9 +136,9 @@ space-come (ok _) = do
   no-space ← tx-fifo-full
   if not no-space then return (ready (ok tt)) else return (pending tt)
 
-abbrev pub space-poll : Driver (Poll (Unit {0}) (Tried (Unit {0})))
-space-poll = do
-  abort ← read-and-clear-abort-reason
+abbrev pub space-poll : Reasons → Driver (Poll (Unit {0}) (Tried (Unit {0})))
+space-poll reason = do
+  abort ← read-and-clear-abort-reason reason
   space-come abort
 
 -- `if res.is_err() { break res; }`, else round again with the bytes that are left
@@ -147,23 +148,23 @@ go-on bytes (ok _) = again bytes
 
 -- what follows the inner loop. TX_TL is 1, not 0: the interrupt comes while an entry is still
 -- to be sent, so that the FIFO is refilled before it has drained and the bus does not stall.
-abbrev pub wait-space : Filled → Driver (Turn (List ℕ) (Tried (Unit {0})))
-wait-space break-xmit = return (done (ok tt))
-wait-space (full bytes) = do
-  res ← wait-on tt (λ _. space-poll) (do
+abbrev pub wait-space : Reasons → Filled → Driver (Turn (List ℕ) (Tried (Unit {0})))
+wait-space reason break-xmit = return (done (ok tt))
+wait-space reason (full bytes) = do
+  res ← wait-on tt (λ _. space-poll reason) (do
     put TX-TL 1
     modify INTR-MASK (λ w. set-m-tx-abrt (set-m-tx-empty w)))
   return (go-on bytes res)
 
 -- `'xmit: loop`: a turn
-abbrev pub xmit : Bool → List ℕ → Driver (Turn (List ℕ) (Tried (Unit {0})))
-xmit send-stop bytes = do
+abbrev pub xmit : Reasons → Bool → List ℕ → Driver (Turn (List ℕ) (Tried (Unit {0})))
+xmit reason send-stop bytes = do
   tx-fifo-space ← tx-fifo-capacity
   filled ← fill send-stop tx-fifo-space bytes
-  wait-space filled
+  wait-space reason filled
 
-unfoldable pub write-async-internal : List ℕ → Bool → Driver (Unit {0})
-write-async-internal bytes send-stop = do
-  res ← loop bytes (xmit send-stop)
-  res ← wait-stop-det res send-stop
+unfoldable pub write-async-internal : Reasons → List ℕ → Bool → Driver (Unit {0})
+write-async-internal reason bytes send-stop = do
+  res ← loop bytes (xmit reason send-stop)
+  res ← wait-stop-det reason res send-stop
   try res

@@ -9,7 +9,7 @@ use Rattle.regs.specs.Program.{Outcome}
 use Rattle.regs.specs.Log.{expected}
 use Rattle.regs.specs.declared.answers.Answer.{Answer}
 use Rattle.regs.specs.declared.answers.Reply.{Reply}
-use Rattle.master.specs.Driver.{Driver}
+use Rattle.master.specs.Driver.{Driver, reason-of}
 use Rattle.master.specs.Operations.{Operation, Transfer, read, write, write-read, transaction}
 use Rattle.master.specs.Operations.{Mode, operations-of, listed, fits, lists}
 use Rattle.master.specs.Transfer.{transfer, within, read-call, write-call, write-read-call, transaction-call}
@@ -54,12 +54,12 @@ arguments (transacts kinds lengths bytes buffer) = transaction (listed kinds len
 -- each plain call is the transfer on these arguments, within its limits
 abbrev pub SameArguments : Type 0
 SameArguments = (mode : Mode) (address : ℕ) (lent : Lent)
-    → program-of mode address lent ≡ within (within-limits lent) (transfer mode address (arguments lent))
+    → program-of mode address lent ≡ within (within-limits lent) (transfer reason-of mode address (arguments lent))
 
 -- with a packet error code the limits are those of the data alone
 abbrev pub program-by : Bool → Mode → ℕ → Lent → Driver Answer
 program-by false mode address lent = program-of mode address lent
-program-by true mode address lent = within (within-limits lent) (coded mode address (arguments lent))
+program-by true mode address lent = within (within-limits lent) (coded reason-of mode address (arguments lent))
 
 abbrev pub program : Call → Driver Answer
 program c = program-by (c .pec) (c .mode) (c .address) (c .lent)

@@ -16,7 +16,7 @@ use Rattle.regs.specs.Left.{bytes-read}
 use Rattle.regs.specs.Program.{if_then_else_, _>>=_, _>>_, return, exit, skip, when}
 use Rattle.regs.specs.Watched.{Watcher, watched}
 use Rattle.bus.specs.Bus.{Sign, START, RESTART, STOP, address-byte, written, read-slot}
-use Rattle.master.specs.Driver.{Driver, setup}
+use Rattle.master.specs.Driver.{Driver, Reasons, setup}
 use Rattle.master.specs.Async.{is-empty}
 use Rattle.master.specs.Operations.{Operation, writes, reads, Mode, blocking, async}
 use Rattle.master.specs.Operations.{Transfer, read, write, write-read, transaction, operations-of}
@@ -95,25 +95,25 @@ coder address os = record {
 -- ---- the transfer
 
 -- the operations one after the other, as in the plain transfers, but that an empty write is refused in both modes
-unfoldable pub each-coded : Mode → Bool → ℕ → List (Operation ℕ) → Driver (Unit {0})
-each-coded mode restart offset [] = skip
-each-coded mode restart offset (reads len ∷ os) = do
-  read-internal mode offset len restart (is-empty os)
-  each-coded mode restart (offset + len) os
-each-coded mode restart offset (writes bytes ∷ os) = do
+unfoldable pub each-coded : Reasons → Mode → Bool → ℕ → List (Operation ℕ) → Driver (Unit {0})
+each-coded reason mode restart offset [] = skip
+each-coded reason mode restart offset (reads len ∷ os) = do
+  read-internal reason mode offset len restart (is-empty os)
+  each-coded reason mode restart (offset + len) os
+each-coded reason mode restart offset (writes bytes ∷ os) = do
   when (is-empty bytes) (exit (Refused InvalidWriteBufferLength))
-  write-internal mode bytes (is-empty os)
-  each-coded mode restart offset os
+  write-internal reason mode bytes (is-empty os)
+  each-coded reason mode restart offset os
 
 abbrev pub is-blocking : Mode → Bool
 is-blocking blocking = true
 is-blocking async = false
 
 -- an async transfer without operations does not set up, as in the Rust
-unfoldable pub longer-transfer : Mode → Bool → ℕ → List (Operation ℕ) → Driver Answer
-longer-transfer mode restart address os = do
+unfoldable pub longer-transfer : Reasons → Mode → Bool → ℕ → List (Operation ℕ) → Driver Answer
+longer-transfer reason mode restart address os = do
   when (is-blocking mode || not (is-empty os)) (setup address)
-  each-coded mode restart 0 os
+  each-coded reason mode restart 0 os
   return Accepted
 
 -- the reads of a transaction do not ask for RESTART
@@ -124,6 +124,6 @@ restarts (write-read bytes len) = true
 restarts (transaction os) = false
 
 -- 0 stands where the code goes
-abbrev pub coded : Mode → ℕ → Transfer ℕ → Driver Answer
-coded mode address t =
-    watched (coder address (operations-of t)) (longer-transfer mode (restarts t) address (with-code 0 (operations-of t)))
+abbrev pub coded : Reasons → Mode → ℕ → Transfer ℕ → Driver Answer
+coded reason mode address t =
+    watched (coder address (operations-of t)) (longer-transfer reason mode (restarts t) address (with-code 0 (operations-of t)))

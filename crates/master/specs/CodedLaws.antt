@@ -18,6 +18,7 @@ use Rattle.regs.specs.Log.{Each, expected}
 use Rattle.regs.specs.Program.{if_then_else_, Outcome}
 use Rattle.regs.specs.Answers.{number}
 use Rattle.bus.specs.Bus.{Sign, START, RESTART, STOP, address-byte, written, read-slot}
+use Rattle.master.specs.Driver.{reason-of}
 use Rattle.master.specs.Operations.{Operation, writes, reads, Mode, blocking, async}
 use Rattle.master.specs.Operations.{Transfer, read, write, write-read, transaction, operations-of}
 use Rattle.master.specs.Transfer.{transfer}
@@ -26,10 +27,10 @@ use Rattle.master.specs.Coded.{message, code-of, with-code, room-of, end
 
 -- what a coded and what a plain transfer leaves
 abbrev pub coded-left : Mode → ℕ → Transfer ℕ → List ℕ → List ℕ → List ℕ → Outcome (Unit {0}) Reply
-coded-left mode address t log readings buffer = expected (coded mode address t) log readings buffer tt
+coded-left mode address t log readings buffer = expected (coded reason-of mode address t) log readings buffer tt
 
 abbrev pub plain-left : Mode → ℕ → Transfer ℕ → List ℕ → List ℕ → List ℕ → Outcome (Unit {0}) Reply
-plain-left mode address t log readings buffer = expected (transfer mode address t) log readings buffer tt
+plain-left mode address t log readings buffer = expected (transfer reason-of mode address t) log readings buffer tt
 
 -- the bytes to write are bytes
 abbrev pub Small : Operation ℕ → Type 0

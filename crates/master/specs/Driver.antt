@@ -3,12 +3,12 @@ use Prim.Native.Nat.{ℕ, _-_}
 use mathlib.Core.Bool.{Bool, true, false, not}
 use lib.Dec.{eqb, ltb}
 use Rattle.regs.specs.declared.answers.AbortReason.{AbortReason}
-use Rattle.regs.specs.declared.answers.AbortReason.the-variants.{NoAcknowledge, ArbitrationLoss, Other}
+use Rattle.regs.specs.declared.answers.AbortReason.the-variants.{NoAcknowledge, ArbitrationLoss, Other, DataNotAcknowledged}
 use Rattle.regs.specs.declared.answers.Refusal.the-variants.{AddressOutOfRange, Abort, TxLevelOutOfRange}
 use Rattle.regs.specs.declared.answers.Answer.{Answer}
 use Rattle.regs.specs.declared.answers.Answer.the-variants.{Refused}
 use Rattle.regs.specs.Registers.{TAR, ENABLE, TXFLR, RXFLR, TX-ABRT-SOURCE, CLR-TX-ABRT}
-use Rattle.regs.specs.Fields.{address-field, level, no-acknowledge, arb-lost}
+use Rattle.regs.specs.Fields.{address-field, level, no-acknowledge, txdata-noack, arb-lost}
 use Rattle.regs.specs.Program.{if_then_else_, Program, _>>=_, _>>_, return, exit, get, put, when, loop, Turn, again, done, Result, ok, err}
 
 -- a part of the master driver, which has no state of its own
@@ -68,19 +68,32 @@ rx-fifo-len = do
   rxflr ← get RXFLR
   return (level rxflr)
 
-abbrev pub reason-of : ℕ → AbortReason
-reason-of abort-reason =
+-- The reason that is told of an abort's raw word. The transfers are the Rust's text over any such reasons. The Rust's and
+-- this driver's follow; `beside-rust` (crate master_reasons) says where calls with them differ.
+abbrev pub Reasons : Type 0
+Reasons = ℕ → AbortReason
+
+-- the Rust's: bits 0 to 2, then bit 12. Bit 3, a data byte not acknowledged, decides nothing.
+abbrev pub rust-reason : Reasons
+rust-reason abort-reason =
     if no-acknowledge abort-reason then NoAcknowledge
     else (if arb-lost abort-reason then ArbitrationLoss else Other abort-reason)
+
+-- this driver's: bit 3, a data byte not acknowledged, is a reason of its own after bits 0 to 2 and before bit 12
+abbrev pub reason-of : Reasons
+reason-of word =
+    if no-acknowledge word then NoAcknowledge
+    else (if txdata-noack word then DataNotAcknowledged word
+    else (if arb-lost word then ArbitrationLoss else Other word))
 
 -- fn read_and_clear_abort_reason. CLR_TX_ABRT clears on read: reading it clears the flag and the
 -- source with it, so the source is read first. What CLR_TX_ABRT itself reads as means nothing.
 -- Until it is read, the controller holds the transmit FIFO empty, and later words would be lost.
-unfoldable pub read-and-clear-abort-reason : Driver (Tried (Unit {0}))
-read-and-clear-abort-reason = do
+unfoldable pub read-and-clear-abort-reason : Reasons → Driver (Tried (Unit {0}))
+read-and-clear-abort-reason reason = do
   abort-reason ← get TX-ABRT-SOURCE
   if not (eqb abort-reason 0)
       then (do
         get CLR-TX-ABRT
-        return (err (reason-of abort-reason)))
+        return (err (reason abort-reason)))
       else return (ok tt)

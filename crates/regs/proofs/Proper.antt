@@ -1,7 +1,8 @@
 -- Answers, refusals and reasons other than TxNotEmpty, as they are handed on through results, polls and turns.
 use Rattle.regs.specs.Program.{Result, ok, err, Turn, again, done, Poll, pending, ready}
 use Rattle.regs.specs.declared.answers.AbortReason.{AbortReason}
-use Rattle.regs.specs.declared.answers.AbortReason.the-variants.{NoAcknowledge, ArbitrationLoss, TxNotEmpty, Other}
+use Rattle.regs.specs.declared.answers.AbortReason.the-variants.{NoAcknowledge, ArbitrationLoss, TxNotEmpty}
+use Rattle.regs.specs.declared.answers.AbortReason.the-variants.{Other, DataNotAcknowledged}
 use Rattle.regs.specs.declared.answers.Refusal.{Refusal}
 use Rattle.regs.specs.declared.answers.Refusal.the-variants.{FrequencyTooHigh, FrequencyZero, ClockOutOfRange, ClockTooFast}
 use Rattle.regs.specs.declared.answers.Refusal.the-variants.{ClockTooSlow, AddressOutOfRange, InvalidReadBufferLength}
@@ -18,6 +19,7 @@ ProperReason NoAcknowledge = Unit {0}
 ProperReason ArbitrationLoss = Unit {0}
 ProperReason (TxNotEmpty n) = ⊥
 ProperReason (Other w) = Unit {0}
+ProperReason (DataNotAcknowledged w) = Unit {0}
 
 abbrev pub ProperRefusal : Refusal → Type 0
 ProperRefusal FrequencyTooHigh = Unit {0}

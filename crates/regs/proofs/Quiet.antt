@@ -11,7 +11,8 @@ use Rattle.regs.specs.Left.{no-access}
 use Rattle.regs.specs.Program.{if_then_else_, Behaviour, ends, Program, when, turns, Turn, again, done, by-turn, rounds, Poll}
 use Rattle.regs.specs.Program.{pending, ready, polled}
 use Rattle.regs.specs.declared.answers.AbortReason.{AbortReason}
-use Rattle.regs.specs.declared.answers.AbortReason.the-variants.{NoAcknowledge, ArbitrationLoss, TxNotEmpty, Other}
+use Rattle.regs.specs.declared.answers.AbortReason.the-variants.{NoAcknowledge, ArbitrationLoss, TxNotEmpty}
+use Rattle.regs.specs.declared.answers.AbortReason.the-variants.{Other, DataNotAcknowledged}
 use Rattle.regs.specs.declared.answers.Answer.{Answer}
 use Rattle.regs.specs.declared.answers.Answer.the-variants.{Refused}
 use Rattle.regs.specs.declared.answers.Refusal.the-variants.{Abort}
@@ -96,6 +97,7 @@ abort-late NoAcknowledge = tt
 abort-late ArbitrationLoss = tt
 abort-late (TxNotEmpty n) = tt
 abort-late (Other w) = tt
+abort-late (DataNotAcknowledged w) = tt
 
 -- what a driver's lemmas are found with
 pub ruleset quiet = (

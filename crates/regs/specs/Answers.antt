@@ -1,7 +1,8 @@
 -- The number and detail of each answer (docs/MANUAL.md, "The numbers").
 use Prim.Native.Nat.{ℕ, _+_, _*_, _^_}
 use Rattle.regs.specs.declared.answers.AbortReason.{AbortReason}
-use Rattle.regs.specs.declared.answers.AbortReason.the-variants.{NoAcknowledge, ArbitrationLoss, TxNotEmpty, Other}
+use Rattle.regs.specs.declared.answers.AbortReason.the-variants.{NoAcknowledge, ArbitrationLoss, TxNotEmpty}
+use Rattle.regs.specs.declared.answers.AbortReason.the-variants.{Other, DataNotAcknowledged}
 use Rattle.regs.specs.declared.answers.Command.{Command}
 use Rattle.regs.specs.declared.answers.Command.the-variants.{GeneralCall, Read, WriteRead, Write}
 use Rattle.regs.specs.declared.answers.ReadStatus.{ReadStatus}
@@ -25,6 +26,7 @@ abort-number NoAcknowledge = 9
 abort-number ArbitrationLoss = 10
 abort-number (TxNotEmpty n) = 11
 abort-number (Other w) = 11
+abort-number (DataNotAcknowledged w) = 23
 
 abbrev pub refusal-number : Refusal → ℕ
 refusal-number FrequencyTooHigh = 1
@@ -76,6 +78,7 @@ abort-detail NoAcknowledge = 0
 abort-detail ArbitrationLoss = 0
 abort-detail (TxNotEmpty n) = n
 abort-detail (Other w) = w
+abort-detail (DataNotAcknowledged w) = w
 
 abbrev pub refusal-detail : Refusal → ℕ
 refusal-detail FrequencyTooHigh = 0

@@ -94,6 +94,9 @@ level w = w % 32
 abbrev pub no-acknowledge : ℕ → Bool
 no-acknowledge w = not (eqb (w % 8) 0)
 
+abbrev pub txdata-noack : ℕ → Bool
+txdata-noack w = bit 3 w
+
 abbrev pub arb-lost : ℕ → Bool
 arb-lost w = bit 12 w
 

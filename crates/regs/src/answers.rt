@@ -1,11 +1,13 @@
 // What a call answers, in the Rust's names. The number and detail of each answer (docs/MANUAL.md)
 // are in specs/Answers.antt, and as code in `regs_numbers`.
-// Why the controller gave a transfer up.
+// Why the controller gave a transfer up. The Rust has no DataNotAcknowledged: only the master
+// here tells it, with the raw word.
 pub enum AbortReason {
     NoAcknowledge,
     ArbitrationLoss,
     TxNotEmpty(u16),
     Other(u32),
+    DataNotAcknowledged(u32),
 }
 
 // What a slave that listens received.

@@ -5,7 +5,7 @@ ghost use Rattle.regs.specs.Fields.{b2n, bit, set-field, command-word, d
 ghost use Rattle.regs.specs.Fields.{first-data-byte, tx-empty, rd-req, tx-abrt, rx-done, stop-det};
 ghost use Rattle.regs.specs.Fields.{gen-call, restart-det, set-m-rx-full, set-m-tx-empty};
 ghost use Rattle.regs.specs.Fields.{set-m-tx-abrt, set-m-stop-det, rfne, level, no-acknowledge};
-ghost use Rattle.regs.specs.Fields.{arb-lost, tx-flush-cnt, address-field, set-ic-sda-tx-hold};
+ghost use Rattle.regs.specs.Fields.{txdata-noack, arb-lost, tx-flush-cnt, address-field, set-ic-sda-tx-hold};
 ghost use Rattle.regs.specs.Fields.{con-slave};
 
 // Bit k of a word: every test of a bit is this one.
@@ -155,6 +155,12 @@ pub fn is_no_acknowledge(w: u32) -> bool
     ensures { λ r. ⌜ r ≡ no-acknowledge w ⌝ }
 {
     w & 7 != 0
+}
+
+pub fn is_data_not_acknowledged(w: u32) -> bool
+    ensures { λ r. ⌜ r ≡ txdata-noack w ⌝ }
+{
+    is_set(w, 3)
 }
 
 pub fn is_arbitration_loss(w: u32) -> bool

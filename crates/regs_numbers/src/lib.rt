@@ -17,6 +17,7 @@ fn number_of_abort(r: AbortReason) -> u8
         AbortReason::ArbitrationLoss => 10,
         AbortReason::TxNotEmpty(_) => 11,
         AbortReason::Other(_) => 11,
+        AbortReason::DataNotAcknowledged(_) => 23,
     }
 }
 
@@ -95,6 +96,7 @@ fn detail_of_abort(r: AbortReason) -> u32
         AbortReason::ArbitrationLoss => 0,
         AbortReason::TxNotEmpty(n) => n as u32,
         AbortReason::Other(w) => w,
+        AbortReason::DataNotAcknowledged(w) => w,
     }
 }
 

@@ -7,7 +7,7 @@ use mathlib.Core.List.{List}
 use Rattle.regs.specs.Program.{if_then_else_}
 use Rattle.regs.specs.Legality.{LegalCall}
 use Rattle.regs.specs.declared.answers.Answer.{Answer}
-use Rattle.master.specs.Driver.{Driver}
+use Rattle.master.specs.Driver.{Driver, reason-of}
 use Rattle.master.specs.Operations as Master
 use Rattle.master.specs.Operations.{Transfer, read, write, write-read, transaction, fits, lists}
 use Rattle.master.specs.Transfer.{transfer, within}
@@ -22,7 +22,8 @@ module _ (form address : ℕ) where
 
   -- plain, or with a packet error code
   abbrev by-code : Bool → Bool → Transfer ℕ → Driver Answer
-  by-code plain limits t = within limits (if plain then transfer (mode-of form) address t else coded (mode-of form) address t)
+  by-code plain limits t = within limits (if plain then transfer reason-of (mode-of form) address t else coded
+      reason-of (mode-of form) address t)
 
   pub transfer-of-legal : (kinds lengths bytes room : List ℕ)
       → LegalCall (transfer-of form address (listed kinds lengths bytes (length room)))

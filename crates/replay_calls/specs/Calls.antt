@@ -10,7 +10,7 @@ use Rattle.regs.specs.declared.answers.Answer.{Answer}
 use Rattle.regs.specs.declared.answers.Reply.{Reply}
 use Rattle.regs.specs.declared.answers.Reply.the-variants.{Answered, LogFull, OutOfReadings}
 use Rattle.clock_setting.specs.SetConfig.{set-config}
-use Rattle.master.specs.Driver.{Driver}
+use Rattle.master.specs.Driver.{Driver, reason-of}
 use Rattle.master.specs.Operations.{Operation, writes, reads, Mode, blocking, async, READ, WRITE, fits, lists}
 use Rattle.master.specs.Operations.{Transfer, read, write, write-read, transaction}
 use Rattle.master.specs.Operations as Master
@@ -58,7 +58,7 @@ mode-of form = if ltb (form % 8) 4 then blocking else async
 -- a form from 8 on has a packet error code. Number 20 is before all, by the data alone
 abbrev pub within-form : ℕ → ℕ → Bool → Transfer ℕ → Driver Answer
 within-form form address limits t =
-    within limits (if ltb form 8 then transfer (mode-of form) address t else coded (mode-of form) address t)
+    within limits (if ltb form 8 then transfer reason-of (mode-of form) address t else coded reason-of (mode-of form) address t)
 
 -- bits 0 and 1 of a form: read, write, write-read, transaction
 abbrev pub transfer-of : ℕ → ℕ → Listed → Driver Answer

@@ -82,6 +82,7 @@ respond-abort-legal (err A.NoAcknowledge) p l n k h = h _ tt
 respond-abort-legal (err A.ArbitrationLoss) p l n k h = h _ tt
 respond-abort-legal (err (A.TxNotEmpty bytes)) p l n k h = reads-legal tt (λ v. h _ tt)
 respond-abort-legal (err (A.Other w)) p l n k h = h _ tt
+respond-abort-legal (err (A.DataNotAcknowledged w)) p l n k h = h _ tt
 
 respond-poll-legal : (rest : List ℕ) → LegalWith (InPoll ProperResult) (respond-poll rest)
 respond-poll-legal rest = search (legal, respond-chunk-legal, respond-abort-legal) depth 20

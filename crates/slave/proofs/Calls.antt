@@ -64,6 +64,7 @@ module _ (me : SlaveState) (n : ℕ) where
     abort-rests (err A.ArbitrationLoss) stat rest = comes _ tt
     abort-rests (err (A.TxNotEmpty bytes)) stat rest = reads-stores refl refl (λ v. comes _ tt)
     abort-rests (err (A.Other w)) stat rest = comes _ tt
+    abort-rests (err (A.DataNotAcknowledged w)) stat rest = comes _ tt
 
     poll-rests : (rest : List ℕ) → Rests me (respond-poll rest n k)
     poll-rests rest =

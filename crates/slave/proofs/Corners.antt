@@ -1,14 +1,18 @@
 -- Computed: refusals of the slave's calls, a log that is full in the middle of a call, and fill bytes.
 use Prim.Native.Nat.{ℕ, zero, suc}
-use mathlib.Core.Bool.{true, false}
+use native.Mathlib.Omega.{arith}
+use mathlib.Core.Bool.{Bool, true, false}
 use mathlib.Core.List.{List, [], _∷_, _++_}
+use mathlib.Core.Logic.{_≢_}
 use mathlib.Core.Path.{_≡_, refl}
+use lib.Dec.{ltb}
 use lib.ListN.{replicate}
-use Rattle.regs.specs.Program.{Outcome, outcome, behaviour, Program, rounds}
-use Rattle.regs.specs.Fields.{set-field}
+use Rattle.regs.specs.Program.{if_then_else_, Outcome, outcome, behaviour, Program, rounds}
+use Rattle.regs.specs.Answers.{abort-number}
+use Rattle.regs.specs.Fields.{set-field, no-acknowledge, arb-lost, tx-flush-cnt}
 use Rattle.regs.specs.declared.access.Entry.{Entry}
 use Rattle.regs.specs.declared.access.Entry.the-variants as E
-use Rattle.regs.specs.declared.answers.AbortReason.the-variants.{NoAcknowledge, ArbitrationLoss}
+use Rattle.regs.specs.declared.answers.AbortReason.the-variants.{NoAcknowledge, ArbitrationLoss, TxNotEmpty, Other}
 use Rattle.regs.specs.declared.answers.Answer.{Answer}
 use Rattle.regs.specs.declared.answers.Answer.the-variants.{Accepted, Responded, Refused}
 use Rattle.regs.specs.declared.answers.ReadStatus.the-variants.{Done}
@@ -17,7 +21,7 @@ use Rattle.regs.specs.declared.answers.Refusal.the-variants.{PartialGeneralCall
 use Rattle.regs.specs.declared.answers.Refusal.the-variants.{NoPlaceForPending, OverLimits}
 use Rattle.regs.specs.declared.answers.Reply.{Reply}
 use Rattle.regs.specs.declared.answers.Reply.the-variants.{Answered, OutOfReadings, LogFull}
-use Rattle.slave.specs.I2cSlave.{drain-places, listen, listen-call, reset, reset-call, send-chunk}
+use Rattle.slave.specs.I2cSlave.{abort-reason, drain-places, listen, listen-call, reset, reset-call, send-chunk}
 use Rattle.slave.specs.I2cSlave.{respond-to-read, respond-to-read-call, respond-till-stop}
 use Rattle.slave.specs.I2cSlave.{respond-till-stop-call, respond-and-fill, respond-and-fill-call}
 use Rattle.slave.specs.declared.Pending.{Pending}
@@ -110,6 +114,27 @@ arbitration : run (respond-to-read-call (1 ∷ 2 ∷ [])) 20 (0x40 ∷ 0x2801000
     ≡ Answered (Refused (Abort ArbitrationLoss))
 unfolding outcome respond-to-read-call respond-to-read rounds
 arbitration = refl
+
+-- bit 3, a data byte not acknowledged, stays Other in the slave, and with bit 12 it is ArbitrationLoss
+data-byte : (run (respond-to-read-call (1 ∷ 2 ∷ [])) 20 (0x40 ∷ 8 ∷ 0 ∷ 0 ∷ []) [] None .answer
+    ≡ Answered (Refused (Abort (Other 8))))
+    × (run (respond-to-read-call (1 ∷ 2 ∷ [])) 20 (0x40 ∷ 0x1008 ∷ 0 ∷ 0 ∷ []) [] None .answer
+    ≡ Answered (Refused (Abort ArbitrationLoss)))
+unfolding outcome respond-to-read-call respond-to-read rounds
+data-byte = (refl, refl)
+
+-- no word makes the slave tell the master's reason for it
+pub never-data-not-acknowledged : (w : ℕ) → abort-number (abort-reason w) ≢ 23
+never-data-not-acknowledged w = go (no-acknowledge w) (arb-lost w) (ltb 0 (tx-flush-cnt w))
+  where
+    go : (a b c : Bool)
+        → abort-number (if a then NoAcknowledge else
+        (if b then ArbitrationLoss else (if c then TxNotEmpty (tx-flush-cnt w) else Other w)))
+        ≢ 23
+    go true b c e = omega arith
+    go false true c e = omega arith
+    go false false true e = omega arith
+    go false false false e = omega arith
 
 -- a poll that sends a byte n times
 abbrev sent : ℕ → ℕ → List Entry

@@ -160,6 +160,7 @@ module _ (P : Claim) (kept : Kept P) where
     aborts w c q A.ArbitrationLoss p t e = on w c q _ came-error
     aborts w c q (A.TxNotEmpty k) p t e = on w c q _ (came-leftover e)
     aborts w c q (A.Other u) p t e = on w c q _ came-error
+    aborts w c q (A.DataNotAcknowledged u) p t e = on w c q _ came-error
 
     polls : (w : ℕ) (q : List ℕ) (t : List ℕ → Behaviour SlaveState Answer)
         → Back t

@@ -15,7 +15,7 @@ use Rattle.regs.specs.Program.{if_then_else_, Program, _>>=_, _>>_, return, exi
 use Rattle.regs.specs.Program.{BLOCK-RESET, store, ask, keep, skip, when, Result, ok, err, Poll, pending, ready}
 use Rattle.regs.specs.Program.{wait-on, Turn, again, done, loop}
 use Rattle.regs.specs.declared.answers.AbortReason.{AbortReason}
-use Rattle.regs.specs.declared.answers.AbortReason.the-variants.{NoAcknowledge, ArbitrationLoss, TxNotEmpty, Other}
+use Rattle.regs.specs.declared.answers.AbortReason.the-variants.{NoAcknowledge, ArbitrationLoss, TxNotEmpty, Other, DataNotAcknowledged}
 use Rattle.regs.specs.declared.answers.Command.{Command}
 use Rattle.regs.specs.declared.answers.Command.the-variants.{GeneralCall, Read, WriteRead, Write}
 use Rattle.regs.specs.declared.answers.ReadStatus.{ReadStatus}
@@ -232,6 +232,7 @@ respond-abort (err (TxNotEmpty bytes)) poll = do
 respond-abort (err NoAcknowledge) poll = return (ready (err (Abort NoAcknowledge)))
 respond-abort (err ArbitrationLoss) poll = return (ready (err (Abort ArbitrationLoss)))
 respond-abort (err (Other w)) poll = return (ready (err (Abort (Other w))))
+respond-abort (err (DataNotAcknowledged w)) poll = return (ready (err (Abort (DataNotAcknowledged w))))
 
 abbrev pub respond-poll : List ℕ → Driver Responded-to
 respond-poll rest = do

@@ -169,6 +169,7 @@ module _ (bytes : List ℕ) where
       aborts m A.ArbitrationLoss b p t outs = fails m A.ArbitrationLoss b
       aborts m (A.TxNotEmpty k) b p t outs = reads-agree M m refl (λ m₁ l₁ v. outs m₁ (omega arith) (LeftoverBytes k) b)
       aborts m (A.Other w) b p t outs = fails m (A.Other w) b
+      aborts m (A.DataNotAcknowledged w) b p t outs = fails m (A.DataNotAcknowledged w) b
 
       -- one poll
       polls : (m i : ℕ) (rest b : List ℕ) (t : List ℕ → Behaviour SlaveState Answer)

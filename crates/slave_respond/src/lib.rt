@@ -204,6 +204,9 @@ fn after_reason(a: AbortReason) -> RespondPoint
         AbortReason::ArbitrationLoss => RespondPoint::Aborted(AbortReason::ArbitrationLoss),
         AbortReason::TxNotEmpty(n) => RespondPoint::ClrIntr(n),
         AbortReason::Other(w) => RespondPoint::Aborted(AbortReason::Other(w)),
+        AbortReason::DataNotAcknowledged(w) => {
+            RespondPoint::Aborted(AbortReason::DataNotAcknowledged(w))
+        }
     }
 }
 

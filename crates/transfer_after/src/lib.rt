@@ -1,6 +1,7 @@
 // Where a reading leads, from any point. An abort returns to its caller here.
 use regs::answers::AbortReason;
 use regs::fields::is_arbitration_loss;
+use regs::fields::is_data_not_acknowledged;
 use regs::fields::is_no_acknowledge;
 use transfer::AbortPoint;
 use transfer::Caller;
@@ -32,6 +33,8 @@ fn reason(w: u32) -> AbortReason
 {
     if is_no_acknowledge(w) {
         AbortReason::NoAcknowledge
+    } else if is_data_not_acknowledged(w) {
+        AbortReason::DataNotAcknowledged(w)
     } else if is_arbitration_loss(w) {
         AbortReason::ArbitrationLoss
     } else {

@@ -55,7 +55,7 @@ pub fn stop_polled(had: Tried, r: AbortReason) -> Step
 {
     match had {
         Tried::Fine => Step::Go(Point::Stop(StopPoint::Clear(Tried::Failed(r)))),
-        Tried::Failed(first) => Step::Go(Point::Stop(StopPoint::Stat(Tried::Failed(first)))),
+        Tried::Failed(earlier) => Step::Go(Point::Stop(StopPoint::Stat(Tried::Failed(earlier)))),
     }
 }
 

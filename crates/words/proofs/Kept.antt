@@ -38,6 +38,7 @@ number-kept (Refused (X.Abort E.NoAcknowledge)) = refl
 number-kept (Refused (X.Abort E.ArbitrationLoss)) = refl
 number-kept (Refused (X.Abort (E.TxNotEmpty n))) = refl
 number-kept (Refused (X.Abort (E.Other w))) = refl
+number-kept (Refused (X.Abort (E.DataNotAcknowledged w))) = refl
 number-kept (Refused (X.TxLevelOutOfRange n)) = refl
 number-kept (Refused X.InvalidResponseBufferLength) = refl
 number-kept (Refused (X.PartialWrite n)) = refl

@@ -37,6 +37,7 @@ tried-kept (Failed E.NoAcknowledge) = refl
 tried-kept (Failed E.ArbitrationLoss) = refl
 tried-kept (Failed (E.TxNotEmpty n)) = refl
 tried-kept (Failed (E.Other w)) = refl
+tried-kept (Failed (E.DataNotAcknowledged w)) = refl
 
 caller-kept : (c : Caller) → caller-at (caller-row c) ≡ c
 unfolding caller-at caller-row indexed rounded ending round-at

@@ -6,7 +6,8 @@ pub mod rows; // points as numbers
 ghost use mathlib.Core.Path.{_≡_};
 
 // `Result<(), Error>`: 0 fine, 1 NoAcknowledge, 2 ArbitrationLoss,
-// 3 TxNotEmpty with the count, any other Other with the word.
+// 3 TxNotEmpty with the count, 5 DataNotAcknowledged with the word,
+// any other Other with the word.
 pub struct Failure {
     pub kind: u64,
     pub count: u16,

@@ -35,6 +35,9 @@ fn reason_of(f: Failure) -> AbortReason
     if f.kind == 3 {
         return AbortReason::TxNotEmpty(f.count);
     }
+    if f.kind == 5 {
+        return AbortReason::DataNotAcknowledged(f.word);
+    }
     AbortReason::Other(f.word)
 }
 

@@ -40,6 +40,7 @@ fn of_reason(a: AbortReason) -> Failure
         AbortReason::ArbitrationLoss => fail(2, 0, 0),
         AbortReason::TxNotEmpty(n) => fail(3, n, 0),
         AbortReason::Other(w) => fail(4, 0, w),
+        AbortReason::DataNotAcknowledged(w) => fail(5, 0, w),
     }
 }
 

@@ -155,15 +155,19 @@ impl Sim {
             0 => rng.pick(&[1, 2, 16, 255, 256, 511]),
             _ => 1 + rng.below(511),
         } << 23;
-        match rng.below(10) {
+        // Bit 3 alone, with bit 12 and with bits 0 to 2: a master's reasons are told apart by these.
+        match rng.below(14) {
             0 | 1 => 1 << rng.below(17),
             2 => 1 << rng.below(17) | 1 << rng.below(17),
-            3 => 1 << 3,
-            4 => 1 << 12 | rng.below(2) << 3,
-            5 => flushed,
-            6 => flushed | 1 << rng.below(17),
-            7 => rng.word(),
-            8 => 1 << rng.below(32),
+            3 | 4 => 1 << 3,
+            5 => 1 << 12 | rng.below(2) << 3,
+            6 => 1 << 12 | 1 << 3,
+            7 => 1 << 3 | rng.below(8),
+            8 => flushed,
+            9 => flushed | 1 << rng.below(17),
+            10 => flushed | 1 << 3 | rng.below(2) << 12,
+            11 => rng.word(),
+            12 => 1 << rng.below(32),
             _ => rng.below(8) << rng.below(30),
         }
     }
@@ -235,6 +239,10 @@ impl Sim {
         }
         if self.rng.chance(768) {
             (self.waiting, self.reads, self.received) = (0, 0, 0);
+        }
+        // A second word right after the first, which must not change the reason.
+        if !slave && self.rng.chance(700) {
+            self.habits.abort_in = Some(0);
         }
         self.abort_word()
     }

@@ -5,6 +5,7 @@ mod coded;
 mod malformed;
 mod master;
 mod slave;
+mod unacknowledged;
 
 use std::fs;
 use std::io;
@@ -121,6 +122,7 @@ pub fn write(folder: &Path) -> io::Result<()> {
     master::add(&mut vectors);
     slave::add(&mut vectors);
     coded::add(&mut vectors);
+    unacknowledged::add(&mut vectors);
     fs::create_dir_all(folder.join("malformed"))?;
     write_pair(folder, "calls", &vectors.frames)?;
     fs::write(folder.join("calls.names"), vectors.names)?;

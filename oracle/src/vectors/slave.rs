@@ -222,3 +222,15 @@ fn fills(vectors: &mut Vectors) {
     vectors.add_cut("respond and fill: 4,096 bytes and the fill byte", respond_and_fill(4096), &[], 4);
     vectors.add_cut("fill: readings used up", fill(), &[], 3);
 }
+
+/// Bit 3 of an abort word, which is no reason of its own here: other abort, or leftover bytes where there is a flush count, and
+/// behind the reasons before it.
+pub fn add_unacknowledged(vectors: &mut Vectors) {
+    for word in [8, 0x1008, 9, 0x0080_0008, 0x0100_1008, 0x0180_0009, 0x18] {
+        let rules = [(RAW_INTR_STAT, vec![0, TX_ABRT]), (TX_ABRT_SOURCE, vec![word])];
+        vectors.add(&format!("respond: reason of abort word {word:#X}"), respond(2), &rules);
+        vectors.add(&format!("fill: reason of abort word {word:#X}"), fill(), &rules);
+        let call = respond_and_fill(2);
+        vectors.add(&format!("respond and fill: reason of abort word {word:#X}"), call, &rules);
+    }
+}

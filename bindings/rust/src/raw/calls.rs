@@ -31,6 +31,10 @@ pub fn bus_rate(frequency: u32, clk: u32) -> BusRate {
     call!(celadonsaw_bus_rate(frequency, clk))
 }
 
+pub fn causes(word: u32) -> AbortCauses {
+    call!(celadonsaw_causes(word))
+}
+
 pub fn blocking_read(address: u16, read: &mut [u8], readings: &[u32], log: &mut [u32]) -> Report {
     call!(celadonsaw_blocking_read(address, mut read, ref readings, mut log))
 }

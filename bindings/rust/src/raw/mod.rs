@@ -25,6 +25,13 @@ pub struct BusRate {
 
 #[repr(C)]
 #[derive(Clone, Copy)]
+pub struct AbortCauses {
+    pub count: u8,
+    pub lowest: u8,
+}
+
+#[repr(C)]
+#[derive(Clone, Copy)]
 pub struct Slave {
     pub has_pending: bool,
     pub pending_byte: u8,
@@ -64,6 +71,7 @@ extern "C" {
         log_len: usize,
     ) -> Report;
     fn celadonsaw_bus_rate(frequency: u32, clk: u32) -> BusRate;
+    fn celadonsaw_causes(word: u32) -> AbortCauses;
     fn celadonsaw_blocking_read(
         address: u16,
         read: *mut u8,

@@ -12,6 +12,27 @@ fn a_byte_that_is_not_kept_is_0() {
 }
 
 #[test]
+fn causes_of_a_word() {
+    let fields = |word| {
+        let AbortCauses { count, lowest } = causes(word);
+        (count, lowest)
+    };
+    for (word, expected) in [
+        (0, (0, 0)),
+        (0x0080_0000, (0, 0)),
+        (0xFFFE_0000, (0, 0)),
+        (1, (1, 0)),
+        (0x8, (1, 3)),
+        (0x1008, (2, 3)),
+        (0x1_FFFF, (17, 0)),
+        (0x1_0000, (1, 16)),
+        (0xFFFF_FFFF, (17, 0)),
+    ] {
+        assert_eq!(fields(word), expected, "word {word:#X}");
+    }
+}
+
+#[test]
 fn an_access_has_only_its_own_fields() {
     let fields = |access: Access| (access.kind, access.register, access.number, access.value);
     let mut words = [0; 20];

@@ -1,6 +1,6 @@
 -- `push_fields`: the tests on the offset 0x00, 0x10, 0x30 and 0x34 select the same branch of `fields`; the
--- literal tables are `con-flags` and `command-flags` by unfolding. `within` raises the bounds of 10 and 4
--- flags to the 425 bytes that the 17 flags of the largest table need.
+-- literal tables are `con-flags` and `command-flags` by unfolding. `within` raises the bounds of 10, 4 and
+-- 17 flags to the 469 bytes that an abort word needs, 17 flags and its causes.
 use native.Mathlib.Omega.{arith}
 use borrow.Author.Tests.{eq-eqb, ne-eqb}
 use Rattle.text_hex.proofs.Appends.{within}
@@ -24,7 +24,7 @@ unfolding fields con-flags
 returns c =
     let at-push-flags = c .before .before in
     let at-if1 = at-push-flags .before .before .before in
-    rw (eq-eqb _ _ (at-if1 .if1 .taken)) (within 425 (omega arith) (at-push-flags .push-flags .ensures))
+    rw (eq-eqb _ _ (at-if1 .if1 .taken)) (within 469 (omega arith) (at-push-flags .push-flags .ensures))
 
 slice-aggregate-push-flags-2 : tie.Need-slice-aggregate-push-flags-2
 slice-aggregate-push-flags-2 c = search needs
@@ -42,7 +42,7 @@ returns-2 c =
     let at-if2 = at-push-flags2 .before .before .before in
     let at-if1 = at-if2 .before in
     rw (ne-eqb _ _ (at-if1 .if1 .left), eq-eqb _ _ (at-if2 .if2 .taken))
-    (within 425 (omega arith) (at-push-flags2 .push-flags2 .ensures))
+    (within 469 (omega arith) (at-push-flags2 .push-flags2 .ensures))
 
 push-interrupts-requires : tie.Need-push-interrupts-requires
 push-interrupts-requires c κs = search needs
@@ -58,7 +58,7 @@ returns-3 c =
     let at-if2 = at-if3 .before in
     let at-if1 = at-if2 .before in
     rw (ne-eqb _ _ (at-if1 .if1 .left), ne-eqb _ _ (at-if2 .if2 .left), eq-eqb _ _ (at-if3 .if3 .taken))
-    (at-push-interrupts .push-interrupts .ensures)
+    (within 469 (omega arith) (at-push-interrupts .push-interrupts .ensures))
 
 push-interrupts-requires-2 : tie.Need-push-interrupts-requires-2
 push-interrupts-requires-2 c κs = search needs
@@ -79,7 +79,7 @@ returns-4 c =
       ne-eqb _ _ (at-if2 .if2 .left),
       ne-eqb _ _ (at-if3 .if3 .left),
       eq-eqb _ _ (at-if4 .if4 .taken),
-    ) (at-push-interrupts2 .push-interrupts2 .ensures)
+    ) (within 469 (omega arith) (at-push-interrupts2 .push-interrupts2 .ensures))
 
 push-states-requires : tie.Need-push-states-requires
 push-states-requires c κs = search needs

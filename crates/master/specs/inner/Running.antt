@@ -15,6 +15,7 @@ use Rattle.regs.specs.Log.{Each, expected}
 use Rattle.regs.specs.Program.{if_then_else_}
 use Rattle.regs.specs.Watched.{Watcher, watched}
 use Rattle.regs.specs.inner.Summed.{Summer}
+use Rattle.master.specs.Driver.{reason-of}
 use Rattle.master.specs.Operations.{READ, WRITE, Mode, Transfer, operations-of}
 use Rattle.master.specs.Coded.{with-code, room-of, tested, longer-transfer, restarts}
 use Rattle.master.specs.CodedLaws.{coded-left, Small}
@@ -66,6 +67,6 @@ abbrev pub Runs : Type 0
 Runs = (mode : Mode) (address : ℕ) (t : Transfer ℕ) (log readings buffer : List ℕ)
     → Each Small (operations-of t)
     → length buffer ≡ room-of (operations-of t)
-    → expected (watched (runner address) (longer-transfer mode (restarts t) address (with-code 0 (operations-of t))))
+    → expected (watched (runner address) (longer-transfer reason-of mode (restarts t) address (with-code 0 (operations-of t))))
     log readings buffer tt
     ≡ coded-left mode address t log readings buffer

@@ -13,6 +13,7 @@ use Rattle.regs.specs.Registers.{DATA-CMD}
 use Rattle.regs.specs.Fields.{command-word, cmd, stop, dat}
 use Rattle.regs.specs.Log.{Each, expected}
 use Rattle.regs.specs.Program.{if_then_else_, Outcome}
+use Rattle.master.specs.Driver.{reason-of}
 use Rattle.master.specs.Operations.{Operation, Mode, Transfer, operations-of}
 use Rattle.master.specs.Coded.{code-of, with-code, room-of, longer-transfer, restarts}
 use Rattle.master.specs.CodedLaws.{coded-left, Small, tested-reply}
@@ -72,7 +73,7 @@ settled address os o = settled-by (code-of address os (o .buffer)) (last-data (o
 -- the longer operations with 0 for the code, as they are run
 abbrev pub longer-left : Mode → ℕ → Transfer ℕ → List ℕ → List ℕ → List ℕ → Outcome (Unit {0}) Reply
 longer-left mode address t log readings buffer =
-    expected (longer-transfer mode (restarts t) address (with-code 0 (operations-of t))) log readings buffer tt
+    expected (longer-transfer reason-of mode (restarts t) address (with-code 0 (operations-of t))) log readings buffer tt
 
 abbrev pub Settles : Type 0
 Settles = (mode : Mode) (address : ℕ) (t : Transfer ℕ) (log readings buffer : List ℕ)

@@ -1,4 +1,4 @@
--- `detail_of_refusal`: in the arms of an abort and of a level the variant that the match finds rewrites
+-- `detail_of_refusal`: in the arms of an abort and of the two lengths the variant that the match finds rewrites
 -- `refusal-detail`.
 use borrow.Author.Needs.{needs}
 use Rattle.regs_numbers.proofs.detail_of_refusal.Statement.{statement}
@@ -104,7 +104,7 @@ returns-11 : tie.Need-returns-11
 returns-11 c = search needs
 
 returns-12 : tie.Need-returns-12
-returns-12 c = search needs
+returns-12 c = simp (c .before .r4 .given .1)
 
 returns-13 : tie.Need-returns-13
 returns-13 c = simp (c .before .r5 .given .1)

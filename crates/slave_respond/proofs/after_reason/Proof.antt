@@ -15,6 +15,9 @@ enum-known-a c = search needs
 enum-known-a-2 : tie.Need-enum-known-a-2
 enum-known-a-2 c = search needs
 
+enum-known-a-3 : tie.Need-enum-known-a-3
+enum-known-a-3 c = search needs
+
 returns : tie.Need-returns
 returns c = simp (c .enum-told .given .1)
 
@@ -27,6 +30,9 @@ returns-3 c = simp (c .before .a .given .1)
 returns-4 : tie.Need-returns-4
 returns-4 c = simp (c .before .a2 .given .1)
 
+returns-5 : tie.Need-returns-5
+returns-5 c = simp (c .before .a3 .given .1)
+
 pub after-reason-spec : {M : Type 1} → statement M
 after-reason-spec =
     tie.close
@@ -35,7 +41,9 @@ after-reason-spec =
     enum-told-2
     enum-known-a
     enum-known-a-2
+    enum-known-a-3
     returns
     returns-2
     returns-3
-    returns-4)
+    returns-4
+    returns-5)

@@ -86,6 +86,7 @@ after-reason A.NoAcknowledge = P.Aborted A.NoAcknowledge
 after-reason A.ArbitrationLoss = P.Aborted A.ArbitrationLoss
 after-reason (A.TxNotEmpty n) = P.ClrIntr n
 after-reason (A.Other w) = P.Aborted (A.Other w)
+after-reason (A.DataNotAcknowledged w) = P.Aborted (A.DataNotAcknowledged w)
 
 abbrev pub after-byte : ℕ → ℕ → RespondPoint
 after-byte i e = if ltb i e then (if ltb (i + 1) e then P.ClrRdReq (i + 1) e else P.IntrMask e) else P.IntrMask e

@@ -48,6 +48,7 @@ reason-row E.NoAcknowledge = failure 1 0 0
 reason-row E.ArbitrationLoss = failure 2 0 0
 reason-row (E.TxNotEmpty n) = failure 3 n 0
 reason-row (E.Other w) = failure 4 0 w
+reason-row (E.DataNotAcknowledged w) = failure 5 0 w
 
 unfoldable pub tried-row : Tried → Failure
 tried-row Fine = failure 0 0 0
@@ -148,7 +149,8 @@ place-of (Finished a) = answer-row a
 unfoldable pub reason-at : Failure → AbortReason
 reason-at f = if eqb (f .kind) 1 then E.NoAcknowledge else
     (if eqb (f .kind) 2 then E.ArbitrationLoss else
-    (if eqb (f .kind) 3 then E.TxNotEmpty (f .count) else E.Other (f .word)))
+    (if eqb (f .kind) 3 then E.TxNotEmpty (f .count) else
+    (if eqb (f .kind) 5 then E.DataNotAcknowledged (f .word) else E.Other (f .word))))
 
 unfoldable pub tried-at : Failure → Tried
 tried-at f = if eqb (f .kind) 0 then Fine else Failed (reason-at f)

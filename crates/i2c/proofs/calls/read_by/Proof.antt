@@ -3,6 +3,7 @@
 -- Else `refused-buffer`: log and buffer are unchanged.
 use Rattle.i2c.proofs.Called.{read-leaves, refused-buffer}
 use Rattle.transfer.specs.inner.Points.{mode-of}
+use Rattle.master.specs.Driver.{reason-of}
 use Rattle.master.specs.Transfer.{transfer}
 use Rattle.master.specs.Operations as Spec
 use Rattle.master.specs.Operations.{fits}
@@ -73,7 +74,7 @@ returns-2 c =
     let at-is-fitting = c .before .before in
     let at-start = at-is-fitting .before .before .before .before in
     refused-buffer (fits (length (now (at-start .args .read))))
-    (transfer (mode-of (at-start .args .mode)) (at-start .args .address)
+    (transfer reason-of (mode-of (at-start .args .mode)) (at-start .args .address)
     (Spec.read (length (now (at-start .args .read)))))
     (now (at-start .args .readings)) (now (at-start .args .log)) (now (at-start .args .read))
     (sym (at-is-fitting .is-fitting .ensures) ∙ c .before .if1 .left) (c .refuse .ensures)

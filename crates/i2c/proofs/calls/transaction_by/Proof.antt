@@ -3,6 +3,7 @@
 -- Else `refused-buffer`: log and buffer are unchanged.
 use Rattle.i2c.proofs.Called.{transaction-leaves, refused-buffer}
 use Rattle.transfer.specs.inner.Points.{mode-of}
+use Rattle.master.specs.Driver.{reason-of}
 use Rattle.master.specs.Transfer.{transfer}
 use Rattle.master.specs.Operations as Spec
 use Rattle.master.specs.Operations.{lists, listed}
@@ -52,7 +53,7 @@ returns-2 c =
     let at-start = at-shared-slice-known3 .before .before .before in
     refused-buffer (lists (now (at-start .args .kinds)) (now (at-start .args .lengths))
     (length (now (at-start .args .write))) (length (now (at-start .args .read))))
-    (transfer (mode-of (at-start .args .mode)) (at-start .args .address)
+    (transfer reason-of (mode-of (at-start .args .mode)) (at-start .args .address)
     (Spec.transaction
     (listed (now (at-start .args .kinds)) (now (at-start .args .lengths)) (now (at-start .args .write)))))
     (now (at-start .args .readings)) (now (at-start .args .log)) (now (at-start .args .read))

@@ -3,6 +3,7 @@
 -- the outcome of `write-call`. Else `refused`: the log is unchanged.
 use Rattle.i2c.proofs.Called.{write-leaves, refused}
 use Rattle.transfer.specs.inner.Points.{mode-of}
+use Rattle.master.specs.Driver.{reason-of}
 use Rattle.master.specs.Transfer.{transfer}
 use Rattle.master.specs.Operations as Spec
 use Rattle.master.specs.Operations.{fits}
@@ -71,7 +72,7 @@ returns-2 c =
     let at-is-fitting = c .before .before in
     let at-start = at-is-fitting .before .before .before .before in
     refused (fits (length (now (at-start .args .write))))
-    (transfer (mode-of (at-start .args .mode)) (at-start .args .address)
+    (transfer reason-of (mode-of (at-start .args .mode)) (at-start .args .address)
     (Spec.write (now (at-start .args .write))))
     (now (at-start .args .readings)) (now (at-start .args .log)) []
     (sym (at-is-fitting .is-fitting .ensures) ∙ c .before .if1 .left) (c .refuse .ensures)

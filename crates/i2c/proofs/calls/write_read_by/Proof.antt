@@ -4,6 +4,7 @@
 use Rattle.i2c.proofs.Basics.{first, second}
 use Rattle.i2c.proofs.Called.{write-read-leaves, refused-buffer}
 use Rattle.transfer.specs.inner.Points.{mode-of}
+use Rattle.master.specs.Driver.{reason-of}
 use Rattle.master.specs.Transfer.{transfer}
 use Rattle.master.specs.Operations as Spec
 use Rattle.master.specs.Operations.{fits}
@@ -86,7 +87,7 @@ returns-2 c =
     let at-shared-slice-known = at-are-fitting .before .before .before .before in
     let at-start = at-shared-slice-known .before in
     refused-buffer (fits (length (now (at-start .args .write))) && fits (length (now (at-start .args .read))))
-    (transfer (mode-of (at-start .args .mode)) (at-start .args .address)
+    (transfer reason-of (mode-of (at-start .args .mode)) (at-start .args .address)
     (Spec.write-read (now (at-start .args .write)) (length (now (at-start .args .read)))))
     (now (at-start .args .readings)) (now (at-start .args .log)) (now (at-start .args .read))
     (sym (at-are-fitting .are-fitting .ensures) ∙ c .before .if1 .left) (c .refuse .ensures)

@@ -4,6 +4,7 @@
 use Rattle.i2c.proofs.WithCode.{read-listed, read-lists, form-leaves}
 use Rattle.i2c.proofs.Called.{refused-buffer}
 use Rattle.transfer.specs.inner.Points.{mode-of}
+use Rattle.master.specs.Driver.{reason-of}
 use Rattle.master.specs.Coded.{coded}
 use Rattle.master.specs.Operations as Spec
 use Rattle.master.specs.Operations.{fits}
@@ -74,7 +75,7 @@ returns-2 c =
     let at-start = at-is-fitting .before .before .before .before in
     let args = at-start .args in
     refused-buffer (fits (length (now (args .read))))
-    (coded (mode-of (args .mode)) (args .address) (Spec.read (length (now (args .read)))))
+    (coded reason-of (mode-of (args .mode)) (args .address) (Spec.read (length (now (args .read)))))
     (now (args .readings)) (now (args .log)) (now (args .read))
     (sym (at-is-fitting .is-fitting .ensures) ∙ c .before .if1 .left) (c .refuse .ensures)
 

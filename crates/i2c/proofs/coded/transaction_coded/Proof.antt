@@ -4,6 +4,7 @@
 use Rattle.i2c.proofs.WithCode.{form-leaves}
 use Rattle.i2c.proofs.Called.{refused-buffer}
 use Rattle.transfer.specs.inner.Points.{mode-of}
+use Rattle.master.specs.Driver.{reason-of}
 use Rattle.master.specs.Coded.{coded}
 use Rattle.master.specs.Operations as Spec
 use Rattle.master.specs.Operations.{lists, listed}
@@ -52,7 +53,7 @@ returns-2 c =
     let args = at-start .args in
     refused-buffer
     (lists (now (args .kinds)) (now (args .lengths)) (length (now (args .write))) (length (now (args .read))))
-    (coded (mode-of (args .mode)) (args .address)
+    (coded reason-of (mode-of (args .mode)) (args .address)
     (Spec.transaction (listed (now (args .kinds)) (now (args .lengths)) (now (args .write)))))
     (now (args .readings)) (now (args .log)) (now (args .read))
     (sym (at-is-listed .is-listed .ensures) ∙ c .before .if1 .left) (c .refuse .ensures)

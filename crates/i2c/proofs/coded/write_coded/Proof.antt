@@ -4,6 +4,7 @@
 use Rattle.i2c.proofs.WithCode.{write-listed, write-lists, form-leaves}
 use Rattle.i2c.proofs.Called.{refused}
 use Rattle.transfer.specs.inner.Points.{mode-of}
+use Rattle.master.specs.Driver.{reason-of}
 use Rattle.master.specs.Coded.{coded}
 use Rattle.master.specs.Operations as Spec
 use Rattle.master.specs.Operations.{fits}
@@ -71,7 +72,7 @@ returns-2 c =
     let at-start = at-is-fitting .before .before .before .before in
     let args = at-start .args in
     refused (fits (length (now (args .write))))
-    (coded (mode-of (args .mode)) (args .address) (Spec.write (now (args .write))))
+    (coded reason-of (mode-of (args .mode)) (args .address) (Spec.write (now (args .write))))
     (now (args .readings)) (now (args .log)) []
     (sym (at-is-fitting .is-fitting .ensures) ∙ c .before .if1 .left) (c .refuse .ensures)
 

@@ -5,6 +5,7 @@ use Rattle.i2c.proofs.Basics.{first, second}
 use Rattle.i2c.proofs.WithCode.{both-listed, both-lists, form-leaves}
 use Rattle.i2c.proofs.Called.{refused-buffer}
 use Rattle.transfer.specs.inner.Points.{mode-of}
+use Rattle.master.specs.Driver.{reason-of}
 use Rattle.master.specs.Coded.{coded}
 use Rattle.master.specs.Operations as Spec
 use Rattle.master.specs.Operations.{fits}
@@ -88,7 +89,7 @@ returns-2 c =
     let at-start = at-shared-slice-known .before in
     let args = at-start .args in
     refused-buffer (fits (length (now (args .write))) && fits (length (now (args .read))))
-    (coded (mode-of (args .mode)) (args .address)
+    (coded reason-of (mode-of (args .mode)) (args .address)
     (Spec.write-read (now (args .write)) (length (now (args .read)))))
     (now (args .readings)) (now (args .log)) (now (args .read))
     (sym (at-are-fitting .are-fitting .ensures) ∙ c .before .if1 .left) (c .refuse .ensures)

@@ -1,0 +1,2 @@
+-- This driver's reasons for an abort beside the Rust's.
+pub mod Reasons

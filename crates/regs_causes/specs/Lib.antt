@@ -1,0 +1,3 @@
+-- The causes of an abort, and what holds of them.
+pub mod Causes
+pub mod Laws
