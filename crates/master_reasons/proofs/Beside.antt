@@ -3,12 +3,10 @@
 -- its packet error code; `twin-left` of Twins.antt says what they leave.
 use Prim.Native.Nat.{ℕ, suc, _+_, _/_}
 use mathlib.Core.Bool.{Bool, true, false, not, _&&_, _||_}
-use mathlib.Core.List.{List, [], _∷_, _++_}
-use mathlib.Core.Path.{_≡_, refl, sym, ap, _∙_, subst}
-use lib.Dec.{eqb, ltb}
+use mathlib.Core.List.{List, [], _∷_}
+use mathlib.Core.Path.{_≡_, refl, sym, ap, subst}
 use lib.ListN.{length}
 use Rattle.regs.specs.declared.access.Entry.{Entry}
-use Rattle.regs.specs.declared.access.Entry.the-variants.{Read, Write, Marked}
 use Rattle.regs.specs.declared.answers.AbortReason.{AbortReason}
 use Rattle.regs.specs.declared.answers.AbortReason.the-variants.{NoAcknowledge, ArbitrationLoss, Other, DataNotAcknowledged}
 use Rattle.regs.specs.declared.answers.Answer.{Answer}
@@ -21,17 +19,17 @@ use Rattle.regs.specs.Program.{if_then_else_, ends, Outcome}
 use Rattle.regs.specs.Log.{expected}
 use Rattle.regs.specs.Watched.{watched-from}
 use Rattle.regs.proofs.Tests.{false-true}
-use Rattle.master.specs.Driver.{Driver, Reasons, rust-reason, reason-of, setup}
+use Rattle.master.specs.Driver.{Driver, Reasons, rust-reason, reason-of}
 use Rattle.master.specs.Async.{is-empty}
 use Rattle.master.specs.Operations.{Operation, writes, reads, Transfer, read, write, write-read, transaction, Mode, blocking, async}
 use Rattle.master.specs.Operations.{operations-of}
 use Rattle.master.specs.Transfer.{each-operation, blocking-read, blocking-write, blocking-write-read, blocking-transaction}
 use Rattle.master.specs.Transfer.{read-async, write-async, write-read-async, transaction-async, transfer, within}
-use Rattle.master.specs.Coded.{tested, is-right, coder, each-coded, is-blocking, longer-transfer, with-code, restarts}
+use Rattle.master.specs.Coded.{tested, coder, each-coded, is-blocking, longer-transfer, with-code, restarts}
 use Rattle.master.specs.Calls.{Call, Lent, program-by, within-limits, arguments, buffer-in}
 use Rattle.master.proofs.Emits.{Does}
 use Rattle.master.proofs.Lent.{same-arguments}
-use Rattle.master_reasons.specs.Reasons.{data-refused, ReasonsOf, ReasonsByWord, aborted-by, transfer-with, program-with}
+use Rattle.master_reasons.specs.Reasons.{data-refused, ReasonsByWord, transfer-with, program-with}
 use Rattle.master_reasons.specs.Reasons.{OwnReasons, left-with, is-abort, ToldBy, unaborted, aborted, cut-dry, cut-full}
 use Rattle.master_reasons.specs.Reasons.{SameBut, SameButReasons, BesideRust, BesideRustCalls}
 use Rattle.master_reasons.proofs.Twins.{Twin, ends-twin, abort-twin, reads-twin, source-twin, writes-twin, marks-twin}

@@ -9,11 +9,11 @@ use borrow.Author.Tests.{eqb-true}
 use Rattle.regs.specs.Registers.{INTR-MASK, RAW-INTR-STAT, CLR-TX-ABRT, CLR-STOP-DET}
 use Rattle.regs.specs.Fields.{tx-empty, stop-det, set-m-tx-abrt, set-m-stop-det}
 use Rattle.regs.specs.Program.{if_then_else_, _>>=_, _>>_, return, get, modify, skip, when, while, Turn, again}
-use Rattle.regs.specs.Program.{done, by-turn, rounds, Poll, pending, ready, polled, ok, err, marks}
+use Rattle.regs.specs.Program.{done, rounds, Poll, pending, ready, polled, ok, err}
 use Rattle.master.specs.Driver.{Driver, Reasons, Tried, is-err, try, while-turn, setup, tx-fifo-capacity, tx-fifo-full, rx-fifo-len}
 use Rattle.master.specs.Driver.{read-and-clear-abort-reason}
 use Rattle.master.specs.Blocking.{read-blocking-bytes, read-blocking-internal, write-blocking-bytes, write-blocking-internal}
-use Rattle.master.specs.Async.{is-empty, both, stop-poll, wait-stop-det, Counts, queue-batch, batch-come}
+use Rattle.master.specs.Async.{both, stop-poll, wait-stop-det, Counts, queue-batch, batch-come}
 use Rattle.master.specs.Async.{batch-poll, fetch-bytes, take-batch}
 use Rattle.master.specs.Async.{read-round, read-async-internal, Filled, break-xmit, full, fill, space-come, space-poll, go-on}
 use Rattle.master.specs.Async.{wait-space, xmit, write-async-internal}
@@ -21,7 +21,7 @@ use Rattle.master.specs.Operations.{Mode, blocking, async}
 use Rattle.master.specs.Transfer.{read-internal, write-internal}
 use Rattle.master.proofs.Emits.{Does}
 use Rattle.master_reasons.proofs.Twins.{first, Twin, ends-twin, abort-twin, reads-twin, source-twin, writes-twin, marks-twin}
-use Rattle.master_reasons.proofs.Twins.{stores-twin, cut-twin, Tells, fine, failed, SameAt, Same, Goes}
+use Rattle.master_reasons.proofs.Twins.{cut-twin, Tells, fine, failed, SameAt, Same, Goes}
 use Rattle.master_reasons.proofs.Twins.{TellsP, if-program, when-twin, turns-twin, twins}
 
 -- what `write_blocking_internal` does after an abort and after its last byte

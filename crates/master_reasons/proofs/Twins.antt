@@ -6,12 +6,11 @@
 --     Tells w a b         results of p and q that are both fine, with no word so far, or failed by f w and g w
 --     TellsP p q          p and q, with no word before them, have such results
 use Prim.Native.Nat.{ℕ, zero, suc}
-use mathlib.Core.Bool.{Bool, true, false, not, _&&_}
+use mathlib.Core.Bool.{Bool, true, false, not}
 use mathlib.Core.List.{List, [], _∷_}
-use mathlib.Core.Path.{_≡_, refl, sym, ap, _∙_, subst}
+use mathlib.Core.Path.{_≡_, refl, ap, subst}
 use lib.Dec.{eqb}
 use lib.ListN.{set}
-use borrow.Author.Tests.{eqb-true}
 use Rattle.regs.specs.declared.access.Entry.{Entry}
 use Rattle.regs.specs.declared.access.Entry.the-variants.{Read, Write, Marked}
 use Rattle.regs.specs.declared.answers.Refusal.the-variants.{Abort}
@@ -21,11 +20,11 @@ use Rattle.regs.specs.declared.answers.Reply.{Reply}
 use Rattle.regs.specs.declared.answers.Reply.the-variants.{Answered}
 use Rattle.regs.specs.Registers.{TX-ABRT-SOURCE}
 use Rattle.regs.specs.Program.{if_then_else_, ends, reads, writes, marks, stores, cut, when, turns, Turn, again, done}
-use Rattle.regs.specs.Program.{by-turn, rounds, Poll, pending, ready, polled, Outcome, outcome, logged, ok, err}
+use Rattle.regs.specs.Program.{by-turn, rounds, Outcome, outcome, logged, ok, err}
 use Rattle.regs.proofs.Tests.{by-test}
 use Rattle.master.specs.Driver.{Driver, Reasons, Tried}
 use Rattle.master.proofs.Emits.{Does, after}
-use Rattle.master_reasons.specs.Reasons.{aborted-by, is-abort, ToldBy, unaborted, aborted, cut-dry, cut-full, SameBut}
+use Rattle.master_reasons.specs.Reasons.{aborted-by, is-abort, ToldBy, unaborted, aborted, cut-dry, cut-full}
 
 -- the first of two words that is not 0
 abbrev pub first : ℕ → ℕ → ℕ

@@ -9,12 +9,10 @@ use native.Mathlib.Omega.{arith}
 use borrow.Author.Tests.{eqb-false, eqb-true, eq-eqb, ne-eqb}
 use lib.Dec.{eqb}
 use lib.Pow.{field, mod-mod-pow, mod-pow-add}
-use Rattle.regs.specs.Fields.{b2n, bit, no-acknowledge}
-use Rattle.regs.specs.Program.{if_then_else_}
+use Rattle.regs.specs.Fields.{b2n, bit}
 use Rattle.regs_causes.specs.Causes.{set-from, lowest-from, CAUSES, causes-of}
 use Rattle.regs_causes.specs.Laws.{NoneIfClear, Lowest, SetOtherwise, OnlyLowBits, AddressNotAcknowledged, DataNotAcknowledged, Rows}
 use Rattle.regs_causes.specs.declared.Counted.{Counted}
-use Rattle.regs_causes.specs.declared.SetCauses.{SetCauses}
 use Rattle.regs_causes.specs.declared.SetCauses.the-variants.{None, Set}
 use Rattle.regs_causes.proofs.Coded.{as-coded, coded}
 

@@ -1,11 +1,9 @@
 -- The causes of an abort, bit by bit. TX_ABRT_SOURCE has a cause in each of its bits 0 to 16 (RP2040 datasheet, I2C
 -- chapter); bits 17 to 22 are reserved, and bits 23 to 31 count the words that were flushed.
 use Prim.Native.Nat.{ℕ, zero, suc, _+_}
-use mathlib.Core.Bool.{Bool}
 use lib.Dec.{eqb}
 use Rattle.regs.specs.Fields.{b2n, bit}
 use Rattle.regs.specs.Program.{if_then_else_}
-use Rattle.regs_causes.specs.declared.Counted.{Counted}
 use Rattle.regs_causes.specs.declared.SetCauses.{SetCauses}
 use Rattle.regs_causes.specs.declared.SetCauses.the-variants.{None, Set}
 

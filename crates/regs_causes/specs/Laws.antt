@@ -1,7 +1,7 @@
 -- What is claimed of the causes of an abort: when there are none, what the count and the lowest say, that only bits 0 to 16
 -- matter, and which reason the lowest tells.
 use Prim.Native.Nat.{ℕ, _%_, _^_, _≤_, _<_}
-use mathlib.Core.Bool.{Bool, true, false}
+use mathlib.Core.Bool.{true, false}
 use mathlib.Core.Logic.{_↔_}
 use mathlib.Core.Path.{_≡_}
 use Rattle.regs.specs.Fields.{bit, no-acknowledge}

@@ -1,8 +1,7 @@
 -- `push_abort_of`: the tests on the number select the branch of `abort-text`. The flags of no rows are no
 -- text, so the causes alone are added; any other number adds nothing (`nothing`).
-use native.Mathlib.Omega.{arith}
 use borrow.Author.Tests.{eq-eqb, ne-eqb}
-use Rattle.text_hex.proofs.Appends.{nothing, within}
+use Rattle.text_hex.proofs.Appends.{nothing}
 use Rattle.text_tables.specs.Rows.{flags}
 use Rattle.explain_frames.specs.Texts.{abort-text}
 use borrow.Author.Needs.{needs}

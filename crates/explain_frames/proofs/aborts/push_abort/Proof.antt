@@ -1,5 +1,4 @@
 -- `push_abort`: the literal table is `aborts-flags` by unfolding.
-use native.Mathlib.Omega.{arith}
 use mathlib.Core.Path.{refl}
 use Rattle.explain_frames.specs.Tables.{aborts-flags}
 use borrow.Author.Needs.{needs}

@@ -2,7 +2,7 @@
 use native.Mathlib.Omega.{arith}
 use mathlib.Core.Path.{ap}
 use lib.ListN.{length}
-use Rattle.text_hex.proofs.Appends.{then, within}
+use Rattle.text_hex.proofs.Appends.{then}
 use Rattle.explain_frames.specs.Tables.{aborts-flags}
 use borrow.Author.Needs.{needs}
 use Rattle.explain_frames.proofs.aborts.push_named.Statement.{statement}
