@@ -1,4 +1,6 @@
 // Lines of the replay's answers as frames.
+#![tactic(auto)]
+
 ghost use Rattle.std.specs.Prelude.{◌≡◌, length};
 ghost use Rattle.text_hex.specs.Text.{number_at};
 ghost use Rattle.answer_frames.specs.Frames.{mark_frame, word_frame, word_of, frame_of_kind, frame_of};
@@ -8,7 +10,7 @@ use text_hex::digits::{Value, is_pairs, number};
 
 // An answer frame: a read and a write with offset and value, the
 // two marks, a buffer, an answer's number and detail; or no frame.
-#[derive(Drop)]
+#[derive(Clone, Copy)]
 pub enum Frame {
     Read(u32, u32),
     Write(u32, u32),

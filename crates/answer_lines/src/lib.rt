@@ -1,5 +1,7 @@
 // Lines of answers in order: the number of a line, whether it is an answer frame, the
 // text of one that is none, and the log that is kept of the open call.
+#![tactic(auto)]
+
 ghost use Rattle.std.specs.Prelude.{◌≡◌, ◌≤◌, length};
 ghost use Rattle.text_hex.specs.Appended.{Appended};
 ghost use Rattle.answer_lines.specs.Lines.{number_after, no_frame, warning, LOG_WORDS, KeptOn};

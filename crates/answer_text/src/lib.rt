@@ -1,5 +1,7 @@
 // A log and the reply behind it as text. Each function puts its
 // text at `at` of a lent buffer and returns where the text ends.
+#![tactic(auto)]
+
 ghost use Rattle.std.specs.Prelude.{◌≡◌, ◌+◌, ◌*◌, ◌<◌, ◌≤◌, length, take};
 ghost use Rattle.regs.specs.Log.{decode};
 ghost use Rattle.text_hex.specs.Text.{hex2, hex4, hex8};
@@ -57,7 +59,7 @@ fn copy_word(out: &mut [u8], at: usize, pairs: &[u8], kind: u32, byte: u32, word
 }
 
 // An entry as it is printed: kind, byte and word of a read or a write, or 0 and a mark.
-#[derive(Drop)]
+#[derive(Clone, Copy)]
 struct Shown {
     kind: u32,
     byte: u8,

@@ -1,5 +1,7 @@
 // The bus between two words, and the sequence that a log makes
 // of it (UM10204, and DATA_CMD in the RP2040 datasheet).
+#![tactic(auto)]
+
 ghost use Rattle.std.specs.Prelude.{◌≡◌, ◌&&◌, not, ◌+◌, ◌*◌, ◌/◌, ◌<◌, ◌^◌, [], ◌∷◌, length, get_or, set};
 ghost use Rattle.std.proofs.lemmas.List.Edits.{sets};
 ghost use Rattle.regs.specs.Fields.{restart, address_field};
@@ -14,21 +16,21 @@ use regs::access::{Entry, entry_of};
 use regs::fields::{address_of, byte_of, has_restart, has_stop, is_read};
 
 // The direction of a byte on the bus.
-#[derive(Drop)]
+#[derive(Clone, Copy)]
 pub enum Direction {
     Writing,
     Reading,
 }
 
 // The bus between two words. Its operations take it by value and hand back what it has become.
-#[derive(Drop)]
+#[derive(Clone, Copy)]
 pub enum Bus {
     Idle,
     Busy(Direction),
 }
 
 // What stands before a word's byte.
-#[derive(Drop)]
+#[derive(Clone, Copy)]
 pub enum Opening {
     None,
     Start,
@@ -36,21 +38,21 @@ pub enum Opening {
 }
 
 // The bus after a word, and what stands before the word's byte.
-#[derive(Drop)]
+#[derive(Clone, Copy)]
 pub struct Applied {
     pub bus: Bus,
     pub opening: Opening,
 }
 
 // What an entry of a log writes to a register that is asked for.
-#[derive(Drop)]
+#[derive(Clone, Copy)]
 pub enum Written {
     Nothing,
     Value(u32),
 }
 
 // The bus, and the next place of the sequence.
-#[derive(Drop)]
+#[derive(Clone, Copy)]
 pub struct Placed {
     pub bus: Bus,
     pub at: usize,

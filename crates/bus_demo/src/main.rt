@@ -1,131 +1,150 @@
 // Prints the bus sequence of worked logs. The file `stdout` holds what
 // UM10204 and the datasheet's DATA_CMD make of them, worked out by hand.
-use libc::STDOUT_FILENO;
+#![tactic(auto)]
+
+use std::io::Print;
 
 // The heads of log entries: a write to TAR and to DATA_CMD.
 const TAR: u32 = 0x204;
 
 const DATA_CMD: u32 = 0x210;
 
-fn say(text: &[u8]) {
-    io::write_all(STDOUT_FILENO, text);
+// What cannot be written is missing from the output, and what follows is tried all the same.
+fn say(rt: HostRuntime, text: &[u8]) {
+    let _ = rt.stdout().write_all(text);
 }
 
-fn say_direction(address: u32) {
+// Two hexadecimal digits or more.
+fn say_hex(rt: HostRuntime, value: u32) {
+    let _ = print!(rt; "{value:02x}");
+}
+
+fn say_direction(rt: HostRuntime, address: u32) {
     if address % 2 == 0 {
-        say(b"w");
+        say(rt, b"w");
     } else {
-        say(b"r");
+        say(rt, b"r");
     }
 }
 
 // One entry of a sequence: an address with w or r for its direction, a written byte, or -- for a read slot.
-fn say_sign(word: u32) {
+fn say_sign(rt: HostRuntime, word: u32) {
     let value = word % 0x10000;
     let kind = word - value;
     if kind == bus::START {
-        say(b" START");
+        say(rt, b" START");
     } else if kind == bus::RESTART {
-        say(b" RESTART");
+        say(rt, b" RESTART");
     } else if kind == bus::STOP {
-        say(b" STOP");
+        say(rt, b" STOP");
     } else if kind == bus::READ_SLOT {
-        say(b" --");
+        say(rt, b" --");
     } else if kind == bus::ADDRESS {
-        say(b" ");
-        io::print_hex(STDOUT_FILENO, (value / 2) as u64, 2);
-        say_direction(value);
+        say(rt, b" ");
+        say_hex(rt, value / 2);
+        say_direction(rt, value);
     } else {
-        say(b" ");
-        io::print_hex(STDOUT_FILENO, value as u64, 2);
+        say(rt, b" ");
+        say_hex(rt, value);
     }
 }
 
 // The places of a buffer that hold a sequence.
-fn say_held(places: &[u32], count: usize) {
+fn say_held(rt: HostRuntime, places: &[u32], count: usize) {
     let held = counts::least(count, places.len());
     let mut i = 0;
     while i < held {
-        say_sign(places[i]);
+        say_sign(rt, places[i]);
         i += 1;
     }
 }
 
 // What a buffer holds of a sequence, and the number of places that the whole takes.
-fn say_sequence(name: &[u8], places: &[u32], count: usize) {
-    say(name);
-    say_held(places, count);
-    say(b" (");
-    io::print_decimal(STDOUT_FILENO, count as u64);
-    say(b")\n");
+fn say_sequence(rt: HostRuntime, name: &[u8], places: &[u32], count: usize) {
+    say(rt, name);
+    say_held(rt, places, count);
+    say(rt, b" (");
+    let _ = print!(rt; "{count}");
+    say(rt, b")\n");
 }
 
-fn show(name: &[u8], log: &[u32]) {
+fn show(rt: HostRuntime, name: &[u8], log: &[u32]) {
     let mut places = [0u32; 16];
     let count = bus::bus_sequence(log, &mut places);
-    say_sequence(name, &places, count);
+    say_sequence(rt, name, &places, count);
 }
 
 // The same with a buffer of two places.
-fn show_two(name: &[u8], log: &[u32]) {
+fn show_two(rt: HostRuntime, name: &[u8], log: &[u32]) {
     let mut places = [0u32; 2];
     let count = bus::bus_sequence(log, &mut places);
-    say_sequence(name, &places, count);
+    say_sequence(rt, name, &places, count);
 }
 
 // One operation.
-fn single() {
-    show(b"one-byte read:", &[TAR, 0x50, DATA_CMD, 0x700]);
+fn single(rt: HostRuntime) {
+    show(rt, b"one-byte read:", &[TAR, 0x50, DATA_CMD, 0x700]);
     show(
+        rt,
         b"two bytes written:",
         &[TAR, 0x50, DATA_CMD, 0x012, DATA_CMD, 0x234],
     );
-    show(b"general call:", &[TAR, 0x00, DATA_CMD, 0x206]);
-    show(b"highest address:", &[TAR, 0x7f, DATA_CMD, 0x3ff]);
-    show(b"no STOP:", &[TAR, 0x50, DATA_CMD, 0x012]);
+    show(rt, b"general call:", &[TAR, 0x00, DATA_CMD, 0x206]);
+    show(rt, b"highest address:", &[TAR, 0x7f, DATA_CMD, 0x3ff]);
+    show(rt, b"no STOP:", &[TAR, 0x50, DATA_CMD, 0x012]);
 }
 
 // Words that start, join or part operations.
-fn several() {
+fn several(rt: HostRuntime) {
     show(
+        rt,
         b"write, then read:",
         &[TAR, 0x50, DATA_CMD, 0x012, DATA_CMD, 0x300],
     );
     show(
+        rt,
         b"reads joined:",
         &[TAR, 0x50, DATA_CMD, 0x100, DATA_CMD, 0x100, DATA_CMD, 0x300],
     );
     show(
+        rt,
         b"RESTART on a busy bus:",
         &[TAR, 0x50, DATA_CMD, 0x012, DATA_CMD, 0x434, DATA_CMD, 0x256],
     );
     show(
+        rt,
         b"RESTART on an idle bus:",
         &[TAR, 0x50, DATA_CMD, 0x412, DATA_CMD, 0x234],
     );
     show(
+        rt,
         b"STOP, then again:",
         &[TAR, 0x50, DATA_CMD, 0x212, DATA_CMD, 0x300],
     );
 }
 
 // Logs with other entries, and with none: reads, marks, other registers and an odd last word add nothing.
-fn others() {
+fn others(rt: HostRuntime) {
     show(
+        rt,
         b"other entries:",
         &[
             0x26c, 0, TAR, 0x50, 0x26c, 1, 0x134, 0x10, DATA_CMD, 0x2a5, 0x300, 0, 0x110, 0x55,
             0x230, 0x210,
         ],
     );
-    show(b"odd last word:", &[TAR, 0x50, DATA_CMD, 0x25a, DATA_CMD]);
-    show(b"no address:", &[DATA_CMD, 0x25a]);
-    show(b"no words:", &[TAR, 0x50]);
-    show_two(b"two places:", &[TAR, 0x50, DATA_CMD, 0x700]);
+    show(
+        rt,
+        b"odd last word:",
+        &[TAR, 0x50, DATA_CMD, 0x25a, DATA_CMD],
+    );
+    show(rt, b"no address:", &[DATA_CMD, 0x25a]);
+    show(rt, b"no words:", &[TAR, 0x50]);
+    show_two(rt, b"two places:", &[TAR, 0x50, DATA_CMD, 0x700]);
 }
 
-fn main() {
-    single();
-    several();
-    others();
+fn main(rt: HostRuntime) {
+    single(rt);
+    several(rt);
+    others(rt);
 }

@@ -4,31 +4,32 @@
 // `text_stdin::next_line`, `svg_lines::draw_line` and `svg_lines::finish` and the claims
 // `every_line` and `every_input` over them; here bytes are only moved. Where no picture was drawn
 // because the input could not be read to its end, or it could not be written, standard error says so.
-ghost use Rattle.std.specs.Prelude.{[], ◌≡◌, ◌<◌, ◌≤◌, length};
-ghost use Rattle.regs.specs.Program.{if◌then◌else◌};
+#![tactic(auto)]
+
+ghost use Rattle.std.specs.Prelude.{[], ◌≡◌, ◌<◌, ◌≤◌, length, if◌then◌else◌};
 ghost use Rattle.text_hex.specs.Appended.{Appended};
 ghost use Rattle.text_stdin.specs.Reads.{is_ended_at};
 ghost use Rattle.answer_lines.specs.Lines.{LOG_WORDS};
 ghost use Rattle.svg_lines.specs.Inner.Said.{PLACES, PICTURE_ROOM, last_warning};
 
-use libc::{STDERR_FILENO, STDOUT_FILENO};
+use std::io::Print;
 use svg_lines::Kept;
 use text_stdin::next_line;
 use text_stdin::reads::{End, is_ended};
 
 // What is kept where the lines end, how the input stands then, and whether all was written.
-#[derive(Drop)]
+#[derive(Clone, Copy)]
 struct Stopped {
     kept: Kept,
     end: End,
     written: bool,
 }
 
-fn put(picture: bool, text: &[u8]) -> bool {
+fn put(rt: HostRuntime, picture: bool, text: &[u8]) -> bool {
     if picture {
-        return io::write_all(STDOUT_FILENO, text);
+        return rt.stdout().write_all(text).is_ok();
     }
-    io::write_all(STDERR_FILENO, text)
+    rt.stderr().write_all(text).is_ok()
 }
 
 // A proved loop ends, so it counts its turns down from a number that no
@@ -45,6 +46,7 @@ fn turns_left(turns: u64, done: bool, written: bool) -> u64
 
 // Line after line to the picture, or to the end of the input.
 fn draw_all(
+    rt: HostRuntime,
     chunk: &mut [u8],
     line: &mut [u8],
     log: &mut [u32],
@@ -61,14 +63,14 @@ fn draw_all(
     let mut written = true;
     let mut turns = u64::MAX;
     while turns > 0 {
-        let l = next_line(source, chunk, line);
+        let l = next_line(rt, source, chunk, line);
         source = l.source;
         if l.some {
             let held = l.held;
             let s = svg_lines::draw_line(kept, line, held, log, places, out);
             kept = s.kept;
             let made = s.made;
-            written = put(s.picture, &out[..made]);
+            written = put(rt, s.picture, &out[..made]);
             turns = turns_left(turns, kept.done, written);
         } else {
             turns = 0;
@@ -92,24 +94,24 @@ fn finish(kept: Kept, end: End, out: &mut [u8]) -> usize
 }
 
 // A picture that was written needs no word about the rest of the input, which is not read.
-fn report(done: bool, written: bool, end: End) {
+fn report(rt: HostRuntime, done: bool, written: bool, end: End) {
     if done & written {
         return;
     }
-    text_stdin::report::stopped(b"bus_svg", written, end);
+    text_stdin::report::stopped(rt, b"bus_svg", written, end);
 }
 
-fn main() {
-    let mut chunk = io::large_buffer();
+fn main(rt: HostRuntime) {
+    let mut chunk = [0u8; 65536];
     let mut line = [0u8; 8195];
     let mut log = [0u32; 16384];
     let mut places = [0u32; 32768];
     let mut out = [0u8; 53000];
-    let s = draw_all(&mut chunk, &mut line, &mut log, &mut places, &mut out);
+    let s = draw_all(rt, &mut chunk, &mut line, &mut log, &mut places, &mut out);
     let kept = s.kept;
     let end = s.end;
     let written = s.written;
     let made = finish(kept, end, &mut out);
-    put(false, &out[..made]);
-    report(kept.done, written, end);
+    put(rt, false, &out[..made]);
+    report(rt, kept.done, written, end);
 }

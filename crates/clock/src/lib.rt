@@ -1,5 +1,7 @@
 // Clock setup: `set_config` of the Rust with the clock as an argument, as a machine of
 // one register access a step and as a whole call; and the rate that the bus gets from it.
+#![tactic(auto)]
+
 ghost use Rattle.std.specs.Prelude.{◌≡◌, [], ◌/◌, ◌≤◌, ◌<◌, length};
 ghost use Rattle.regs.specs.Inner.Machine.{final, ran};
 ghost use Rattle.regs.specs.Log.{Leaves, expected};
@@ -15,7 +17,7 @@ use regs::access::{Next, Performed, Ran};
 use regs::answers::{Answer, Refusal};
 
 // What the registers are set to.
-#[derive(Drop)]
+#[derive(Clone, Copy)]
 pub struct Counts {
     pub hcnt: u32,
     pub lcnt: u32,
@@ -24,21 +26,21 @@ pub struct Counts {
 }
 
 // Whether a frequency and a clock are looked at further: what is tested before the first access.
-#[derive(Drop)]
+#[derive(Clone, Copy)]
 pub enum Range {
     Within,
     Outside(Refusal),
 }
 
 // What a frequency and a clock in range come to.
-#[derive(Drop)]
+#[derive(Clone, Copy)]
 pub enum Setting {
     Legal(Counts),
     Illegal(Refusal),
 }
 
 // Where clock setup stands: the access that is next.
-#[derive(Drop)]
+#[derive(Clone, Copy)]
 pub enum ClockPoint {
     Disable(Setting),
     Hcnt(Counts),

@@ -1,4 +1,6 @@
 // Counts of places, entries or readings.
+#![tactic(auto)]
+
 ghost use Rattle.std.specs.Prelude.{◌≡◌, min};
 
 // The smaller of two counts.

@@ -1,4 +1,6 @@
 // The packet error code of SMBus: CRC-8 by a table of the codes of single bytes.
+#![tactic(auto)]
+
 mod lanes; // for many bytes
 
 ghost use Rattle.std.specs.Prelude.{◌≡◌};

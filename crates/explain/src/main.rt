@@ -4,17 +4,19 @@
 // `explain_lines::explain_line` and the claims `every_line` and `every_input` over them; here
 // bytes are only moved. Where the input could not be read to its end, or a text not be written,
 // standard error says so.
+#![tactic(auto)]
+
 ghost use Rattle.std.specs.Prelude.{◌≡◌, ◌+◌, ◌<◌, length};
 ghost use Rattle.answer_lines.specs.Lines.{LOG_WORDS};
 ghost use Rattle.explain_lines.specs.Printed.{LINE_ROOM};
 ghost use Rattle.explain_lines.specs.Inner.Said.{PLACES, BUS_ROOM};
 
-use libc::STDOUT_FILENO;
+use std::io::Print;
 use text_stdin::next_line;
 use text_stdin::reads::End;
 
 // How the input stands where the lines end, and whether all was written.
-#[derive(Drop)]
+#[derive(Clone, Copy)]
 struct Stopped {
     end: End,
     written: bool,
@@ -31,6 +33,7 @@ fn turns_left(turns: u64, written: bool) -> u64
 
 // Line after line to the end of the input.
 fn explain_all(
+    rt: HostRuntime,
     chunk: &mut [u8],
     line: &mut [u8],
     log: &mut [u32],
@@ -47,14 +50,14 @@ fn explain_all(
     let mut written = true;
     let mut turns = u64::MAX;
     while turns > 0 {
-        let l = next_line(source, chunk, line);
+        let l = next_line(rt, source, chunk, line);
         source = l.source;
         if l.some {
             let held = l.held;
             let s = explain_lines::explain_line(call, line, held, log, places, out);
             call = s.call;
             let made = s.made;
-            written = io::write_all(STDOUT_FILENO, &out[..made]);
+            written = rt.stdout().write_all(&out[..made]).is_ok();
             turns = turns_left(turns, written);
         } else {
             turns = 0;
@@ -64,13 +67,13 @@ fn explain_all(
     Stopped { end, written }
 }
 
-fn main() {
-    let mut chunk = io::large_buffer();
+fn main(rt: HostRuntime) {
+    let mut chunk = [0u8; 65536];
     let mut line = [0u8; 8195];
     let mut log = [0u32; 16384];
     let mut places = [0u32; 32768];
     let mut out = [0u8; 311821];
-    let s = explain_all(&mut chunk, &mut line, &mut log, &mut places, &mut out);
+    let s = explain_all(rt, &mut chunk, &mut line, &mut log, &mut places, &mut out);
     let end = s.end;
-    text_stdin::report::stopped(b"explain", s.written, end);
+    text_stdin::report::stopped(rt, b"explain", s.written, end);
 }

@@ -8,7 +8,7 @@ use answer_frames::{Frame, frame_in};
 use bus::{Bus, Written};
 
 // No transfer, as long as TAR was not written; then its address, and the bus.
-#[derive(Drop)]
+#[derive(Clone, Copy)]
 pub enum Transfer {
     No,
     To(u32, Bus),

@@ -1,4 +1,6 @@
 // The bus line of a transfer: the log that its frames write down
 // again, and the text of the sequence that the log makes of the bus.
+#![tactic(auto)]
+
 pub mod line; // the text
 pub mod kept; // the log

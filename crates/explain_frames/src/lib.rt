@@ -1,5 +1,7 @@
 // The replay's answers for people: the text of frames. Each function puts
 // its text at `at` of a lent buffer and returns where the text ends.
+#![tactic(auto)]
+
 mod aborts; // the causes of an abort word
 
 ghost use Rattle.std.specs.Prelude.{◌≡◌, ◌+◌, ◌*◌, ◌<◌, ◌≤◌, length};

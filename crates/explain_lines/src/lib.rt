@@ -1,5 +1,7 @@
 // The text that explain prints of a line, after the lines before it. What is kept
 // from line to line comes in by value and goes back; the buffers are lent.
+#![tactic(auto)]
+
 ghost use Rattle.std.specs.Prelude.{◌≡◌, ◌++◌, ◌+◌, ◌≤◌, length, take};
 ghost use Rattle.text_hex.specs.Appended.{Appended};
 ghost use Rattle.answer_lines.specs.Lines.{LOG_WORDS};
@@ -13,7 +15,7 @@ use explain_beside::transfer::{Transfer, after};
 use explain_bus::line::bus_line;
 
 // How many lines came, how much of the open call's log is used, and what stands before its next frame.
-#[derive(Drop)]
+#[derive(Clone, Copy)]
 pub struct Call {
     pub lines: u64,
     pub used: usize,
@@ -21,7 +23,7 @@ pub struct Call {
 }
 
 // What is kept behind a line, and how much of the buffer its text fills.
-#[derive(Drop)]
+#[derive(Clone, Copy)]
 pub struct Said {
     pub call: Call,
     pub made: usize,

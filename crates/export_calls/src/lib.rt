@@ -1,7 +1,9 @@
 // The public calls for programs in C or Rust, as functions of a static library
-// (`rt staticlib export_calls`). Each forwards to the call of the same name;
+// (`rt lib` here makes it). Each forwards to the call of the same name;
 // numbers, slices and structs of numbers go through, and an answer is given by
 // its number and detail (docs/MANUAL.md). A slice is a pointer and a length.
+#![tactic(auto)]
+
 pub mod coded_calls; // the transfers with a packet error code
 pub mod slave_calls; // the slave's calls, with the state by value
 

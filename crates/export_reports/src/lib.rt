@@ -1,5 +1,7 @@
 // What the exported calls return: answers, rates, causes and the slave's state as structs of
 // numbers, and how they are made of the drivers' own (docs/MANUAL.md).
+#![tactic(auto)]
+
 ghost use Rattle.std.specs.Prelude.{◌≡◌};
 ghost use Rattle.export_reports.specs.Report.{report_of, rate_of, cause_numbers};
 ghost use Rattle.export_reports.specs.Report.{pending_of, state_of, numbers_of};
@@ -12,7 +14,7 @@ use slave::{Pending, SlaveState};
 
 // What a call answers, the entries that it left in the log and the readings that it used.
 #[repr(C)]
-#[derive(Drop)]
+#[derive(Clone, Copy)]
 pub struct Report {
     pub number: u8,
     pub detail: u32,
@@ -23,7 +25,7 @@ pub struct Report {
 // The rate that the bus gets from a clock setting: number 0, whole Hz and what the division of
 // the clock leaves. Or the number under which the setting is refused; the other two are then 0.
 #[repr(C)]
-#[derive(Drop)]
+#[derive(Clone, Copy)]
 pub struct BusRate {
     pub number: u8,
     pub hz: u32,
@@ -33,7 +35,7 @@ pub struct BusRate {
 // The causes of an abort: how many of bits 0 to 16 are set in its raw word,
 // and the lowest of them. Both are 0 where none is set.
 #[repr(C)]
-#[derive(Drop)]
+#[derive(Clone, Copy)]
 pub struct AbortCauses {
     pub count: u8,
     pub lowest: u8,
@@ -42,7 +44,7 @@ pub struct AbortCauses {
 // The slave's state: what lasts from call to call. The byte counts
 // only where one is kept, and is given as 0 where none is.
 #[repr(C)]
-#[derive(Drop)]
+#[derive(Clone, Copy)]
 pub struct Slave {
     pub has_pending: bool,
     pub pending_byte: u8,
@@ -52,7 +54,7 @@ pub struct Slave {
 
 // What a call of the slave leaves beside the log and the buffer.
 #[repr(C)]
-#[derive(Drop)]
+#[derive(Clone, Copy)]
 pub struct SlaveReport {
     pub state: Slave,
     pub report: Report,

@@ -1,8 +1,10 @@
-// A master transfer driven one access at a time from C or Rust (`rt staticlib export_steps`): start it
+// A master transfer driven one access at a time from C or Rust (`rt lib` here makes the library): start it
 // and ask for the first access; then perform the access and step with the word read, until the access
 // is the end. The transfer is held by the caller, as 20 words (`words`) that each function is lent.
 // The functions that end in `_pec` are for a transfer with a packet error code, whose running code
 // the caller holds beside the words as two bytes (`code`): one transfer takes either kind, not both.
+#![tactic(auto)]
+
 ghost use Rattle.std.specs.Prelude.{◌≡◌, true, false, [], ◌∷◌};
 ghost use Rattle.export_steps.specs.Forms.{same, fits_form, accepts};
 ghost use Rattle.words_code.specs.Inner.Code.{sum_in};
@@ -19,7 +21,7 @@ use words::{ADDRESS, ROW, WORD};
 // 3 is a mark (register 0: a poll that is not done; 1: a reset of the block),
 // and 0 is the end, with the answer's number and, as value, its detail.
 #[repr(C)]
-#[derive(Drop)]
+#[derive(Clone, Copy)]
 pub struct Access {
     pub kind: u8,
     pub register: u8,

@@ -1,5 +1,7 @@
 // The master's calls. They stand in modules: number 20's limits, the eight transfers in the Rust's names, and
 // the same eight with a packet error code.
+#![tactic(auto)]
+
 mod limits; // number 20
 
 pub use limits::is_listed;

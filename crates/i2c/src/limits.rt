@@ -11,7 +11,7 @@ pub const MOST_BYTES: usize = 4096;
 pub const MOST_OPERATIONS: usize = 64;
 
 // The lengths of the writes and of the reads, added, or that a kind is neither.
-#[derive(Drop)]
+#[derive(Clone, Copy)]
 pub enum Totals {
     Sums(usize, usize),
     Unknown,

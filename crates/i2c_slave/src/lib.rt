@@ -1,6 +1,8 @@
 // The slave driver: one call to which the state is lent, a thin wrapper over the call by
 // value of `slave_run`. Above it stand the five calls in the Rust's names: the state comes
 // and goes by value, and each lends it to that call, so every program runs the lent form.
+#![tactic(auto)]
+
 ghost use Rattle.std.specs.Prelude.{[], length};
 ghost use Rattle.regs.specs.Log.{LeavesState, LeavesAll, expected};
 ghost use Rattle.slave.specs.I2cSlave.{reset_call, listen_call, respond_to_read_call, respond_till_stop_call};

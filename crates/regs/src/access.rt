@@ -9,7 +9,7 @@ use super::answers::{Answer, Reply};
 use super::fields::byte_of;
 
 // What a machine does next: read a register, write it, make a mark, or nothing more.
-#[derive(Drop)]
+#[derive(Clone, Copy)]
 pub enum Next {
     Read(u8),
     Write(u8, u32),
@@ -18,14 +18,14 @@ pub enum Next {
 }
 
 // What is done to the lent buffer with an access: nothing, or a byte is put at an index.
-#[derive(Drop)]
+#[derive(Clone, Copy)]
 pub enum Store {
     Nothing,
     Byte(usize, u8),
 }
 
 // An entry of the log: a register's offset with the word read or written, or a mark.
-#[derive(Drop)]
+#[derive(Clone, Copy)]
 pub enum Entry {
     Read(u8, u32),
     Write(u8, u32),
@@ -34,14 +34,14 @@ pub enum Entry {
 
 // An access was performed: the reading that it took, 0 where it
 // takes none, and the readings used so far. Or the run stops.
-#[derive(Drop)]
+#[derive(Clone, Copy)]
 pub enum Performed {
     Did(u32, usize),
     Stopped(Reply),
 }
 
 // What a run leaves beside the log, the buffer and the state.
-#[derive(Drop)]
+#[derive(Clone, Copy)]
 pub struct Ran {
     pub reply: Reply,
     pub entries: usize,

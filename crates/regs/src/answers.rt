@@ -2,7 +2,7 @@
 // are in specs/Answers.antt, and as code in `regs_numbers`.
 // Why the controller gave a transfer up. The Rust has no DataNotAcknowledged: only the master
 // here tells it, with the raw word.
-#[derive(Drop)]
+#[derive(Clone, Copy)]
 pub enum AbortReason {
     NoAcknowledge,
     ArbitrationLoss,
@@ -12,7 +12,7 @@ pub enum AbortReason {
 }
 
 // What a slave that listens received.
-#[derive(Drop)]
+#[derive(Clone, Copy)]
 pub enum Command {
     GeneralCall(u16),
     Read,
@@ -21,7 +21,7 @@ pub enum Command {
 }
 
 // How a slave's response ended.
-#[derive(Drop)]
+#[derive(Clone, Copy)]
 pub enum ReadStatus {
     Done,
     NeedMoreBytes,
@@ -29,7 +29,7 @@ pub enum ReadStatus {
 }
 
 // Why a call is turned down. What the Rust names has its name here.
-#[derive(Drop)]
+#[derive(Clone, Copy)]
 pub enum Refusal {
     FrequencyTooHigh,
     FrequencyZero,
@@ -51,7 +51,7 @@ pub enum Refusal {
 }
 
 // What a driver answers.
-#[derive(Drop)]
+#[derive(Clone, Copy)]
 pub enum Answer {
     Accepted,
     Heard(Command),
@@ -61,7 +61,7 @@ pub enum Answer {
 
 // What a run answers: what the driver did, or that a reading
 // or a place in the log was wanted and there was none.
-#[derive(Drop)]
+#[derive(Clone, Copy)]
 pub enum Reply {
     Answered(Answer),
     OutOfReadings,

@@ -1,5 +1,7 @@
 // The register library beneath master and slave: the controller's
 // 25 registers, the fields of their words, and the access log.
+#![tactic(auto)]
+
 ghost use Rattle.std.specs.Prelude.{◌≡◌, get_or};
 ghost use Rattle.regs.specs.Registers.{offsets};
 

@@ -1,15 +1,17 @@
 // The causes of an abort: how many are set in a raw word of TX_ABRT_SOURCE, and which is the lowest.
+#![tactic(auto)]
+
 ghost use Rattle.std.specs.Prelude.{◌≡◌};
 ghost use Rattle.regs_causes.specs.Causes.{causes_of};
 
 // How many causes are set, at least one, and the bit of the lowest of them.
-#[derive(Drop)]
+#[derive(Clone, Copy)]
 pub struct Counted {
     pub count: u8,
     pub lowest: u8,
 }
 
-#[derive(Drop)]
+#[derive(Clone, Copy)]
 pub enum SetCauses {
     None,
     Set(Counted),

@@ -1,4 +1,6 @@
 // The number and detail of each answer (docs/MANUAL.md).
+#![tactic(auto)]
+
 ghost use Rattle.std.specs.Prelude.{◌≡◌};
 ghost use Rattle.regs.specs.Answers.{abort_number, refusal_number, answer_number, number, command_detail};
 ghost use Rattle.regs.specs.Answers.{status_detail, abort_detail, refusal_detail, answer_detail, detail};

@@ -1,5 +1,7 @@
 // A machine's run in parts. In specs/ is what it means that a run comes from one of
 // its states to another; here are the entries that a part of it puts into the log.
+#![tactic(auto)]
+
 ghost use Rattle.std.specs.Prelude.{◌≡◌, ◌+◌, ◌/◌, ◌<◌, length};
 ghost use Rattle.regs.specs.Inner.Machine.{entered};
 

@@ -5,14 +5,14 @@ ghost use Rattle.replay_session.specs.Inner.Enter.{arrays, Lent, longest_kept};
 ghost use Rattle.replay_state.specs.Inner.Rest.{whole, Sound};
 ghost use Rattle.replay.specs.Replayed.{Unfed, FedFrom, ReadAll, AtEnd};
 
-use libc::STDOUT_FILENO;
 use replay_scan::Fed;
 use replay_state::State;
 use replay_state::ends::start;
+use std::io::Print;
 use text_stdin::reads::{End, is_ended, read_some};
 
 // The bytes of the chunk that were read and are not yet fed, and how the input stands behind them.
-#[derive(Drop)]
+#[derive(Clone, Copy)]
 struct Span {
     at: usize,
     filled: usize,
@@ -20,7 +20,7 @@ struct Span {
 }
 
 // Where the reader stands, how the input does, and whether all answers so far were written.
-#[derive(Drop)]
+#[derive(Clone, Copy)]
 pub struct Read {
     pub state: State,
     pub end: End,
@@ -28,7 +28,7 @@ pub struct Read {
 }
 
 // The same, or, where there are none, those of the next read.
-fn unfed(chunk: &mut [u8], at: usize, filled: usize) -> Span
+fn unfed(rt: HostRuntime, chunk: &mut [u8], at: usize, filled: usize) -> Span
     ensures { Unfed chunk.old at filled chunk.new result }
 {
     if at < filled {
@@ -38,7 +38,7 @@ fn unfed(chunk: &mut [u8], at: usize, filled: usize) -> Span
             end: End::Open,
         };
     }
-    let got = read_some(chunk);
+    let got = read_some(rt, chunk);
     let count = got.count;
     let end = got.end;
     Span {
@@ -99,6 +99,7 @@ fn feed_from(
 // Reads to the end of the input, and writes answers on the way; a read or a write that fails ends it
 // too. A proved loop ends, so it counts its turns down from a number that no run uses up.
 pub fn read_all(
+    rt: HostRuntime,
     chunk: &mut [u8],
     text: &mut [u8],
     kinds: &mut [u8],
@@ -123,7 +124,7 @@ pub fn read_all(
     let mut filled: usize = 0;
     let mut turns = u64::MAX;
     while turns > 0 {
-        let u = unfed(chunk, at, filled);
+        let u = unfed(rt, chunk, at, filled);
         let from = u.at;
         filled = u.filled;
         if filled == 0 {
@@ -140,7 +141,7 @@ pub fn read_all(
         state = f.state;
         at = f.used;
         let made = f.made;
-        if !io::write_all(STDOUT_FILENO, &out[..made]) {
+        if rt.stdout().write_all(&out[..made]).is_err() {
             return Read {
                 state,
                 end: End::Open,

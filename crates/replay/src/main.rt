@@ -2,13 +2,15 @@
 // written is what Session says of the input (`every_read`), by the contracts of
 // `input::read_all` and `input::at_end`; here bytes are only moved. Where the input could not be
 // read to its end, or an answer not be written, standard error says so.
+#![tactic(auto)]
+
 mod input; // standard input, read to its end
 
-use libc::STDOUT_FILENO;
+use std::io::Print;
 use text_stdin::report;
 
-fn main() {
-    let mut chunk = io::large_buffer();
+fn main(rt: HostRuntime) {
+    let mut chunk = [0u8; 65536];
     let mut text = [0u8; 8198];
     let mut kinds = [0u8; 64];
     let mut lengths = [0u16; 64];
@@ -18,6 +20,7 @@ fn main() {
     let mut log = [0u32; 16384];
     let mut out = [0u8; 262144];
     let r = input::read_all(
+        rt,
         &mut chunk,
         &mut text,
         &mut kinds,
@@ -42,6 +45,6 @@ fn main() {
         &mut log,
         &mut out,
     );
-    let written = io::write_all(STDOUT_FILENO, &out[..made]);
-    report::stopped(b"replay", written && r.written, end);
+    let written = rt.stdout().write_all(&out[..made]).is_ok();
+    report::stopped(rt, b"replay", written && r.written, end);
 }

@@ -1,11 +1,13 @@
 // Calls of the replay: what a call is, and what a run left, printed.
+#![tactic(auto)]
+
 pub mod outcome; // what a run left, printed
 
 use slave::SlaveState;
 
 // A call as its call frame gives it. The operations of a
 // transfer and the bytes of a response stand beside it.
-#[derive(Drop)]
+#[derive(Clone, Copy)]
 pub enum Call {
     Clock(u32, u32),
     Master(u8, u16),
@@ -17,7 +19,7 @@ pub enum Call {
 }
 
 // The slave's state after a call, and where the printed text ends.
-#[derive(Drop)]
+#[derive(Clone, Copy)]
 pub struct Done {
     pub slave: SlaveState,
     pub end: usize,

@@ -1,4 +1,6 @@
 // A whole line of the input, entered.
+#![tactic(auto)]
+
 ghost use Rattle.std.specs.Prelude.{length, ◌≤◌};
 ghost use Rattle.replay_frames.specs.Frame.{run, frame_of};
 ghost use Rattle.replay_frames.specs.Inner.Short.{as_frame};

@@ -1,5 +1,7 @@
 // The replay's reader: bytes in chunks of any size, calls
 // run in order, answers out, in lent slices of fixed size.
+#![tactic(auto)]
+
 ghost use Rattle.std.specs.Prelude.{◌+◌, ◌<◌, ◌≤◌, length};
 ghost use Rattle.replay_calls.specs.Inner.Runs.{MOST_TEXT};
 ghost use Rattle.replay_state.specs.Inner.Rest.{whole, Sound};

@@ -1,4 +1,6 @@
 // A line of the input as a frame.
+#![tactic(auto)]
+
 ghost use Rattle.std.specs.Prelude.{◌≡◌};
 ghost use Rattle.text_hex.specs.Appended.{Below, NumberAs};
 ghost use Rattle.replay_frames.specs.Frame.{clock_of, master_of, reset_of, listen_of, fill_of, read_of};
@@ -10,7 +12,7 @@ use replay_calls::Call;
 use text_hex::digits::{Value, number};
 
 // The frames that end in bytes.
-#[derive(Drop)]
+#[derive(Clone, Copy)]
 pub enum Line {
     Write,
     Respond,
@@ -18,14 +20,14 @@ pub enum Line {
 }
 
 // What a line begins with: one of these, or anything else.
-#[derive(Drop)]
+#[derive(Clone, Copy)]
 pub enum Head {
     Plain,
     Bytes(Line),
 }
 
 // A frame of a fixed length, or that the line is none.
-#[derive(Drop)]
+#[derive(Clone, Copy)]
 pub enum Short {
     Opens(Call),
     Read(u16),

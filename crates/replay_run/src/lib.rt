@@ -1,4 +1,6 @@
 // Any call: it runs its driver on the readings, and prints the log, the read or listen buffer, and the reply.
+#![tactic(auto)]
+
 ghost use Rattle.std.specs.Prelude.{◌≡◌, true, false, [], ◌+◌, ◌≤◌, length};
 ghost use Rattle.clock_setting.specs.SetConfig.{set_config};
 ghost use Rattle.text_hex.specs.Appended.{Appended};

@@ -1,5 +1,7 @@
 // The master's transfers, run and printed, by the bits of their form: 0 and 1 the kind
 // (read, write, write-read, transaction), 2 async, 3 with a packet error code.
+#![tactic(auto)]
+
 ghost use Rattle.std.specs.Prelude.{◌≡◌, [], ◌+◌, ◌%◌, ◌≤◌, ◌<◌, length};
 ghost use Rattle.regs.specs.Log.{Leaves, LeavesBuffer, expected};
 ghost use Rattle.replay_calls.specs.Calls.{listed, transfer_of, lists_read};

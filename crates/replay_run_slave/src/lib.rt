@@ -1,4 +1,6 @@
 // The slave's calls, run and printed.
+#![tactic(auto)]
+
 ghost use Rattle.std.specs.Prelude.{◌≡◌, true, false, [], ◌+◌, ◌≤◌, length, replicate};
 ghost use Rattle.slave.specs.I2cSlave.{reset_call, listen_call, respond_to_read_call, respond_till_stop_call};
 ghost use Rattle.slave.specs.I2cSlave.{respond_and_fill_call};

@@ -9,7 +9,7 @@ use replay_state::{LONGEST_KEPT, Part};
 use text_hex::digits::digit;
 
 // Where in its line the reader is behind a run, and where the run ends in the chunk.
-#[derive(Drop)]
+#[derive(Clone, Copy)]
 pub struct Moved {
     pub part: Part,
     pub used: usize,

@@ -1,4 +1,6 @@
 // A step inside a line: a run of its bytes, or one byte. No call is run here.
+#![tactic(auto)]
+
 pub mod bytes; // a run of bytes inside a line
 pub mod ahead; // whole lines of a chunk
 
@@ -13,7 +15,7 @@ use replay_state::turns::{go_on, keep, skip};
 use replay_state::{Part, State, Turn};
 
 // The state after some of a chunk, how much of it was read, and where the answers in `out` end.
-#[derive(Drop)]
+#[derive(Clone, Copy)]
 pub struct Fed {
     pub state: State,
     pub used: usize,

@@ -1,5 +1,7 @@
 // Runs of readings. Most lines of a recording are readings of the open call:
 // they are read in one loop, and the reader's state is made once behind them.
+#![tactic(auto)]
+
 ghost use Rattle.std.specs.Prelude.{◌≡◌, ◌+◌, ◌≤◌, length};
 ghost use Rattle.replay_calls.specs.Calls.{MOST_READINGS};
 ghost use Rattle.replay_scan_readings.specs.Inner.Run.{DigitValues, marked, PairAt, WordAt, ReadingAt};
@@ -12,7 +14,7 @@ use replay_state::{Part, State};
 use text_hex::digits::Value;
 
 // Where a run ends in the chunk, how many readings the call has then, and the number of the next line.
-#[derive(Drop)]
+#[derive(Clone, Copy)]
 pub struct Ran {
     pub used: usize,
     pub count: usize,
@@ -20,7 +22,7 @@ pub struct Ran {
 }
 
 // Two bytes by a table of digit values.
-#[derive(Drop)]
+#[derive(Clone, Copy)]
 struct Pair {
     sum: u64,
     value: u64,

@@ -1,4 +1,6 @@
 // Frames in order: the call that is open, and what each frame does to it.
+#![tactic(auto)]
+
 pub mod bytes; // a line that ends in bytes
 pub mod store; // how far the lent slices are filled
 pub mod enter; // what each frame does
@@ -12,7 +14,7 @@ use replay_frames::Line;
 use slave::SlaveState;
 
 // The operations that a call still wants.
-#[derive(Drop)]
+#[derive(Clone, Copy)]
 pub enum Wants {
     Nothing,
     Read,
@@ -22,21 +24,21 @@ pub enum Wants {
 }
 
 // What is wanted after an operation, if it may come now.
-#[derive(Drop)]
+#[derive(Clone, Copy)]
 pub enum Took {
     Now(Wants),
     Never,
 }
 
 // The call after a line of bytes and what it wants then, if the line may come now.
-#[derive(Drop)]
+#[derive(Clone, Copy)]
 pub enum Taken {
     Now(Call, Wants),
     Never,
 }
 
 // How much of each lent slice the open call has filled, or that its operations are beyond the limits.
-#[derive(Drop)]
+#[derive(Clone, Copy)]
 pub struct Counts {
     pub large: bool,
     pub ops: usize,
@@ -46,7 +48,7 @@ pub struct Counts {
 }
 
 // The call that is open, if one is.
-#[derive(Drop)]
+#[derive(Clone, Copy)]
 pub struct Open {
     pub busy: bool,
     pub call: Call,
@@ -56,7 +58,7 @@ pub struct Open {
 
 // What a frame leads to: the open call and the slave's state
 // after it, and where what was printed ends; or it is malformed.
-#[derive(Drop)]
+#[derive(Clone, Copy)]
 pub enum Entered {
     Going(Open, SlaveState, usize),
     Malformed,

@@ -1,4 +1,6 @@
 // The replay's reader: where it is, and what a byte does to that.
+#![tactic(auto)]
+
 pub mod ends; // the beginning and the end of an input
 pub mod turns; // a byte, or the end of a line
 
@@ -10,7 +12,7 @@ use slave::{Pending, SlaveState};
 
 // Where the reader is: past a malformed line; in a line of which n bytes are kept; or
 // in a line of bytes that is longer than what is kept, with a digit waiting or not.
-#[derive(Drop)]
+#[derive(Clone, Copy)]
 pub enum Part {
     Stopped,
     Text(usize),
@@ -20,7 +22,7 @@ pub enum Part {
 // So many bytes of a line are kept.
 pub const LONGEST_KEPT: usize = 8198;
 
-#[derive(Drop)]
+#[derive(Clone, Copy)]
 pub struct State {
     pub line: u32,
     pub part: Part,
@@ -29,7 +31,7 @@ pub struct State {
 }
 
 // The state after a step, and where the answers in `out` end.
-#[derive(Drop)]
+#[derive(Clone, Copy)]
 pub struct Turn {
     pub state: State,
     pub made: usize,

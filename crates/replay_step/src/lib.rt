@@ -1,4 +1,6 @@
 // A step of the reader through a chunk: a line, or some bytes of one.
+#![tactic(auto)]
+
 ghost use Rattle.std.specs.Prelude.{◌≡◌, false, [], ◌∷◌, ◌+◌, ◌<◌, ◌≤◌, length};
 ghost use Rattle.replay_calls.specs.Inner.Runs.{MOST_TEXT};
 ghost use Rattle.replay_state.specs.Inner.Rest.{whole, Sound, Went, begun_of};

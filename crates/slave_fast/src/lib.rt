@@ -1,4 +1,6 @@
 // The burst that begins at the slave's point, if one does.
+#![tactic(auto)]
+
 ghost use Rattle.std.specs.Prelude.{true, List, ◌≡◌, ℕ, ◌/◌, ◌≤◌, length};
 ghost use Rattle.slave_fast.specs.Inner.GoesAhead.{GoesAhead, SendsBytes};
 ghost use Rattle.slave_respond.specs.Inner.Machine.{response, count_of};
@@ -10,7 +12,7 @@ use slave_respond::{Job, RespondPoint, Response};
 use slave_steps::{Point, Slave};
 
 // How far the slave came: its point, the readings used and the entries in the log.
-#[derive(Drop)]
+#[derive(Clone, Copy)]
 pub struct Ahead {
     pub point: Point,
     pub used: usize,

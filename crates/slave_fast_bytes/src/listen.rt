@@ -9,7 +9,7 @@ use regs_runs::{put_mark, put_read, put_write};
 
 // How far a burst came: the status word, the place that
 // is next, the readings used and the entries in the log.
-#[derive(Drop)]
+#[derive(Clone, Copy)]
 pub struct Came {
     pub stat: u32,
     pub index: u16,
@@ -18,7 +18,7 @@ pub struct Came {
 }
 
 // How far the bytes of one poll came.
-#[derive(Drop)]
+#[derive(Clone, Copy)]
 struct Drained {
     index: u16,
     used: usize,

@@ -8,7 +8,7 @@ use regs_runs::{put_mark, put_read, put_write};
 use slave_respond::{chunk_end, wide};
 
 // How far a burst came: the byte that is next, the readings used and the entries in the log.
-#[derive(Drop)]
+#[derive(Clone, Copy)]
 pub struct Sent {
     pub index: u16,
     pub used: usize,

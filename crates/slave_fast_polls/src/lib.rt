@@ -1,4 +1,6 @@
 // Polls that find nothing to do: INTR_MASK is set, and the next poll comes.
+#![tactic(auto)]
+
 ghost use Rattle.std.specs.Prelude.{◌≡◌, ◌/◌, ◌≤◌, length};
 ghost use Rattle.slave_fast_polls.specs.Inner.Idles.{Idles, idle_poll, Awaits, idle_listen};
 
@@ -7,7 +9,7 @@ use regs::fields::{has_rd_req, has_rx_done, has_stop_det, has_tx_abrt, has_tx_em
 use regs_runs::{put_mark, put_read, put_write};
 
 // How far the polls came: the readings used and the entries in the log.
-#[derive(Drop)]
+#[derive(Clone, Copy)]
 pub struct Polled {
     pub used: usize,
     pub entries: usize,

@@ -1,5 +1,7 @@
 // `listen` as a machine of one access a step. The crate `slave_steps`
 // joins it with the slave's other machines; apart, each is proved quickly.
+#![tactic(auto)]
+
 pub mod drain; // the steps of `drain_fifo`
 
 ghost use Rattle.std.specs.Prelude.{◌≡◌, ◌&&◌, ltb};
@@ -15,7 +17,7 @@ use slave::Pending;
 pub const MASK: u32 = 1 << 9 | 1 << 12 | 1 << 11 | 1 << 5 | 1 << 2;
 
 // The access that is next, with the status word and the length so far where they are still wanted.
-#[derive(Drop)]
+#[derive(Clone, Copy)]
 pub enum ListenPoint {
     RxTl,
     RawIntrStat(u16),
@@ -39,7 +41,7 @@ pub enum ListenPoint {
 }
 
 // Where a step leads, the pending byte then, and what is stored with the step.
-#[derive(Drop)]
+#[derive(Clone, Copy)]
 pub struct Listened {
     pub point: ListenPoint,
     pub pending: Pending,

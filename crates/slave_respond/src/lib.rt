@@ -1,5 +1,7 @@
 // `respond_to_read` as a machine of one access a step, with what a response sends
 // and leads to. The crate `slave_steps` joins it with the slave's other machines.
+#![tactic(auto)]
+
 ghost use Rattle.std.specs.Prelude.{◌&&◌, ◌≡◌, get_or};
 ghost use Rattle.regs.specs.Fields.{rd_req, tx_empty};
 ghost use Rattle.slave.specs.I2cSlave.{abort_reason};
@@ -21,7 +23,7 @@ const CHUNK: u16 = 16;
 
 // What is sent: the bytes of `respond_to_read`, those of `respond_and_fill`,
 // the fill byte of `respond_till_stop`, and that of `respond_and_fill`.
-#[derive(Drop)]
+#[derive(Clone, Copy)]
 pub enum Job {
     Respond,
     RespondThenFill(u8),
@@ -30,7 +32,7 @@ pub enum Job {
 }
 
 // The access that is next, with the index of the byte and the end of its chunk where they are still wanted.
-#[derive(Drop)]
+#[derive(Clone, Copy)]
 pub enum RespondPoint {
     RawIntrStat(u16),
     TxAbrtSource(u32, u16),
@@ -45,7 +47,7 @@ pub enum RespondPoint {
     Aborted(AbortReason),
 }
 
-#[derive(Drop)]
+#[derive(Clone, Copy)]
 pub struct Response {
     pub job: Job,
     pub point: RespondPoint,

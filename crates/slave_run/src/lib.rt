@@ -1,5 +1,7 @@
 // The slave's machine run over a list of readings, and any call by its request,
 // with the state by value. The call that the state is lent to is in `i2c_slave`.
+#![tactic(auto)]
+
 ghost use Rattle.std.specs.Prelude.{◌≡◌, ◌/◌, length};
 ghost use Rattle.regs.specs.Inner.Machine.{final, ran};
 ghost use Rattle.regs.specs.Log.{LeavesAll};
@@ -13,7 +15,7 @@ use slave_steps::Slave;
 
 // The five calls: the address and whether general calls are heard, or the fill
 // byte. The bytes of a response and the buffer to listen into are lent beside it.
-#[derive(Drop)]
+#[derive(Clone, Copy)]
 pub enum Request {
     Reset(u16, bool),
     Listen,
@@ -23,7 +25,7 @@ pub enum Request {
 }
 
 // What a call by value leaves beside the log and the buffer.
-#[derive(Drop)]
+#[derive(Clone, Copy)]
 pub struct Left {
     pub state: SlaveState,
     pub ran: Ran,

@@ -1,4 +1,6 @@
 // The slave driver as one machine of one access a step, over the machines of `listen` and of a response.
+#![tactic(auto)]
+
 pub mod reset; // the points of `reset`
 
 ghost use Rattle.std.specs.Prelude.{◌≡◌};
@@ -14,7 +16,7 @@ use slave_listen::ListenPoint;
 use slave_respond::{Job, RespondPoint, Response};
 
 // Where a call stands: the access that is next.
-#[derive(Drop)]
+#[derive(Clone, Copy)]
 pub enum Point {
     Refused(Refusal),
     BlockReset(u16, bool),
@@ -24,7 +26,7 @@ pub enum Point {
 }
 
 // The machine: the state, the length of the listen buffer or of the response, and the point.
-#[derive(Drop)]
+#[derive(Clone, Copy)]
 pub struct Slave {
     pub state: SlaveState,
     pub length: u16,
@@ -32,7 +34,7 @@ pub struct Slave {
 }
 
 // What a step makes of the machine and of the lent buffer.
-#[derive(Drop)]
+#[derive(Clone, Copy)]
 pub struct Moved {
     pub slave: Slave,
     pub store: Store,

@@ -6,7 +6,7 @@ ghost use Rattle.slave_steps.specs.Inner.Machine.{next_reset, advance_reset};
 use regs::access::Next;
 use regs::answers::Answer;
 
-#[derive(Drop)]
+#[derive(Clone, Copy)]
 pub enum ResetPoint {
     Disable,
     Sar,

@@ -1,5 +1,7 @@
 // What bus_svg writes of a line, after the lines before it. What is kept from
 // line to line comes in by value and goes back; the buffers are lent.
+#![tactic(auto)]
+
 ghost use Rattle.std.specs.Prelude.{◌≡◌, ◌≤◌, length, take};
 ghost use Rattle.text_hex.specs.Appended.{Appended};
 ghost use Rattle.answer_lines.specs.Lines.{LOG_WORDS};
@@ -12,7 +14,7 @@ use answer_lines::{keep_on, no_frame, number_after, push_warning};
 use text_tables::push_text;
 
 // How many lines came, how much of the open call's log is used, and whether the picture was drawn.
-#[derive(Drop)]
+#[derive(Clone, Copy)]
 pub struct Kept {
     pub lines: u64,
     pub used: usize,
@@ -21,7 +23,7 @@ pub struct Kept {
 
 // What is kept behind a line, how much of the buffer its text fills, and
 // whether that is the picture, for standard output, or for standard error.
-#[derive(Drop)]
+#[derive(Clone, Copy)]
 pub struct Said {
     pub kept: Kept,
     pub made: usize,

@@ -1,6 +1,7 @@
 // The picture of a log's bus sequence: the signs one after the other, and the whole.
-ghost use Rattle.std.specs.Prelude.{◌+◌, ◌*◌, ◌≤◌, ◌≡◌, length, take, ltb};
-ghost use Rattle.regs.specs.Program.{if◌then◌else◌};
+#![tactic(auto)]
+
+ghost use Rattle.std.specs.Prelude.{◌+◌, ◌*◌, ◌≤◌, ◌≡◌, length, take, ltb, if◌then◌else◌};
 ghost use Rattle.text_hex.specs.Appended.{Appended};
 ghost use Rattle.svg_text.specs.Picture.{column, row, note_text, picture};
 ghost use Rattle.svg_text.specs.Inner.Drawn.{kind_width, words_text, words_last, words_svg};

@@ -5,7 +5,7 @@ ghost use Rattle.text_hex.specs.Appended.{NumberAs};
 ghost use Rattle.text_hex.specs.Pairs.{all_digits, whole_pairs, values, PutAt};
 
 // The number that digits write, if they are digits.
-#[derive(Drop)]
+#[derive(Clone, Copy)]
 pub enum Value {
     Is(u32),
     No,

@@ -1,4 +1,6 @@
 // Standard input in whole lines. Bytes are read in chunks of any size; a line is handed out in a lent buffer.
+#![tactic(auto)]
+
 pub mod reads; // single reads
 pub mod report; // what is said where reading or writing failed
 
@@ -11,7 +13,7 @@ use reads::{End, is_open, read_some};
 
 // What was read and not handed out yet stands in the chunk from `at` up to
 // `filled`. So many lines were handed out, and how the input stands.
-#[derive(Drop)]
+#[derive(Clone, Copy)]
 pub struct Source {
     pub at: usize,
     pub filled: usize,
@@ -21,7 +23,7 @@ pub struct Source {
 
 // Whether there was a line, how many bytes of the buffer it fills,
 // and what is left. Its number is the source's count of lines.
-#[derive(Drop)]
+#[derive(Clone, Copy)]
 pub struct Line {
     pub source: Source,
     pub held: usize,
@@ -29,7 +31,7 @@ pub struct Line {
 }
 
 // How far a chunk was read, how much of the buffer is filled, and whether the line has ended.
-#[derive(Drop)]
+#[derive(Clone, Copy)]
 struct Part {
     at: usize,
     filled: usize,
@@ -146,7 +148,7 @@ fn count_on(lines: u64, some: bool) -> u64
 
 // The next line, without its LF. A last line may lack it; behind an LF that is the last byte there is
 // no further line. Of a line that a failed read cut nothing is handed out.
-pub fn next_line(from: Source, chunk: &mut [u8], line: &mut [u8]) -> Line
+pub fn next_line(rt: HostRuntime, from: Source, chunk: &mut [u8], line: &mut [u8]) -> Line
     requires { Within from chunk.old }
     ensures { HandedOut from chunk.old chunk.new line.new result }
 {
@@ -154,7 +156,7 @@ pub fn next_line(from: Source, chunk: &mut [u8], line: &mut [u8]) -> Line
     let mut end = from.end;
     let mut turns = reads_left(u64::MAX, part.ended, end);
     while turns > 0 {
-        let got = read_some(chunk);
+        let got = read_some(rt, chunk);
         let count = got.count;
         end = got.end;
         part = take(chunk, 0, count, part.held, line);

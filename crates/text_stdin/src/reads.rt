@@ -1,12 +1,13 @@
 // Reads of standard input: what each brought, and how it leaves the input.
 ghost use Rattle.std.specs.Prelude.{◌≡◌, length};
 ghost use Rattle.text_stdin.specs.Reads.{is_open_at, is_ended_at, got_by, Brought};
+ghost use Rattle.text_stdin.specs.Inner.Counted.{bytes_by};
 
-use libc::STDIN_FILENO;
+use std::io::Read;
 
 // How the input stands: bytes may follow; it has ended, a read having answered 0; a read has
 // failed; or as many reads as are counted have brought bytes, and the end was not reached.
-#[derive(Drop)]
+#[derive(Clone, Copy)]
 pub enum End {
     Open,
     Ended,
@@ -15,7 +16,7 @@ pub enum End {
 }
 
 // So many bytes stand at the start of the chunk, and how the input stands behind them.
-#[derive(Drop)]
+#[derive(Clone, Copy)]
 pub struct Got {
     pub count: usize,
     pub end: End,
@@ -45,12 +46,23 @@ pub fn is_ended(end: End) -> bool
     }
 }
 
+// How many bytes of the chunk an answer gives: none where
+// it is negative, and never more than the chunk has.
+fn count(answer: isize, chunk: &[u8]) -> usize
+    ensures { result ≡ bytes_by answer (length chunk.now) }
+{
+    if answer > 0 {
+        return (answer as usize).min(chunk.len());
+    }
+    0
+}
+
 // What a read's answer says. Into a chunk with no room
 // nothing can be read, so a 0 there is no end of the input.
 pub fn by_answer(answer: isize, chunk: &[u8]) -> Got
     ensures { result ≡ got_by answer (length chunk.now) }
 {
-    let count = io::count(answer, chunk);
+    let count = count(answer, chunk);
     if count > 0 {
         return Got {
             count,
@@ -76,9 +88,14 @@ pub fn by_answer(answer: isize, chunk: &[u8]) -> Got
 }
 
 // One read.
-pub fn read_some(chunk: &mut [u8]) -> Got
+pub fn read_some(rt: HostRuntime, chunk: &mut [u8]) -> Got
     ensures { Brought chunk.new result }
 {
-    let answer = libc::read(STDIN_FILENO, chunk);
-    by_answer(answer, chunk)
+    match rt.stdin().read(chunk) {
+        Ok(n) => by_answer(n as isize, chunk),
+        Err(_) => Got {
+            count: 0,
+            end: End::Failed,
+        },
+    }
 }

@@ -1,32 +1,34 @@
 // What a program says on standard error where its input was not read to the end, or its output not written.
 use super::reads::End;
-use libc::STDERR_FILENO;
+use std::io::Print;
 
-fn say(name: &[u8], text: &[u8]) {
-    io::write_all(STDERR_FILENO, name);
-    io::write_all(STDERR_FILENO, text);
+// Where standard error cannot be written either, there is nobody left to tell.
+fn say(rt: HostRuntime, name: &[u8], text: &[u8]) {
+    let err = rt.stderr();
+    let _ = err.write_all(name);
+    let _ = err.write_all(text);
 }
 
 // Nothing where the input has ended. A program that leaves it open has counted all its turns.
-pub fn unread(name: &[u8], end: End) {
+pub fn unread(rt: HostRuntime, name: &[u8], end: End) {
     match end {
-        End::Open => say(name, b": standard input was not read to its end\n"),
+        End::Open => say(rt, name, b": standard input was not read to its end\n"),
         End::Ended => {}
-        End::Failed => say(name, b": standard input could not be read\n"),
-        End::OutOfTurns => say(name, b": standard input was not read to its end\n"),
+        End::Failed => say(rt, name, b": standard input could not be read\n"),
+        End::OutOfTurns => say(rt, name, b": standard input was not read to its end\n"),
     }
 }
 
 // Where a write failed.
-pub fn unwritten(name: &[u8]) {
-    say(name, b": standard output could not be written\n");
+pub fn unwritten(rt: HostRuntime, name: &[u8]) {
+    say(rt, name, b": standard output could not be written\n");
 }
 
 // Where a program stops: whether all was written, and how its input stands.
-pub fn stopped(name: &[u8], written: bool, end: End) {
+pub fn stopped(rt: HostRuntime, name: &[u8], written: bool, end: End) {
     if written {
-        unread(name, end);
+        unread(rt, name, end);
     } else {
-        unwritten(name);
+        unwritten(rt, name);
     }
 }

@@ -1,5 +1,7 @@
 // Texts, rows of tables, flags, and pairs of digits. Each function puts
 // its text at `at` of a lent buffer and returns where the text ends.
+#![tactic(auto)]
+
 pub mod decimal; // decimal numbers
 
 ghost use Rattle.std.specs.Prelude.{◌+◌, ◌*◌, ◌≤◌, length, drop};

@@ -32,7 +32,7 @@ pub fn sum(a: usize, n: u16) -> usize
 }
 
 // What TXFLR says of the transmit FIFO: its free places, or a level that it does not have.
-#[derive(Drop)]
+#[derive(Clone, Copy)]
 pub enum Capacity {
     Places(u16),
     TooHigh(u8),

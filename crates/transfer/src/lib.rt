@@ -1,19 +1,21 @@
 // Where a master transfer stands: the access that is next, grouped by the Rust function that
 // it lies in. In specs/ is the machine over these points, of one register access a step; the
 // crates `transfer_access` to `transfer_steps` are its code. Apart, each is proved quickly.
+#![tactic(auto)]
+
 pub mod counts; // counts of bytes and places
 pub mod refusals; // ends by a refusal
 
 use regs::answers::{AbortReason, Answer};
 
-#[derive(Drop)]
+#[derive(Clone, Copy)]
 pub enum Mode {
     Blocking,
     Async,
 }
 
 // `Result<(), Error>`, where the Rust looks at it.
-#[derive(Drop)]
+#[derive(Clone, Copy)]
 pub enum Tried {
     Fine,
     Failed(AbortReason),
@@ -21,7 +23,7 @@ pub enum Tried {
 
 // What the rounds of an async read count: the bytes still to
 // take, the words still to queue, and the words of this round.
-#[derive(Drop)]
+#[derive(Clone, Copy)]
 pub struct Round {
     pub remaining: u16,
     pub queue: u16,
@@ -29,7 +31,7 @@ pub struct Round {
 }
 
 // fn setup
-#[derive(Drop)]
+#[derive(Clone, Copy)]
 pub enum SetupPoint {
     Disable,
     Target,
@@ -37,7 +39,7 @@ pub enum SetupPoint {
 }
 
 // fn read_and_clear_abort_reason: the source, and the clearing of a source that was read
-#[derive(Drop)]
+#[derive(Clone, Copy)]
 pub enum AbortPoint {
     Source,
     Clear(u32),
@@ -45,7 +47,7 @@ pub enum AbortPoint {
 
 // who called it: the byte that is read or written, the round with the level that was
 // read, the byte that waits for a place, or what is known before the wait for STOP
-#[derive(Drop)]
+#[derive(Clone, Copy)]
 pub enum Caller {
     Read(u16),
     Write(u16),
@@ -55,7 +57,7 @@ pub enum Caller {
 }
 
 // fn read_blocking_internal, at a byte
-#[derive(Drop)]
+#[derive(Clone, Copy)]
 pub enum ReadPoint {
     Room(u16),
     Ask(u16),
@@ -64,7 +66,7 @@ pub enum ReadPoint {
 }
 
 // fn write_blocking_internal, at a byte
-#[derive(Drop)]
+#[derive(Clone, Copy)]
 pub enum WritePoint {
     Send(u16),
     Empty(u16),
@@ -72,7 +74,7 @@ pub enum WritePoint {
 }
 
 // fn read_async_internal, in a round: so many words to queue, so many bytes to fetch
-#[derive(Drop)]
+#[derive(Clone, Copy)]
 pub enum RoundPoint {
     Capacity(Round),
     Queue(Round, u16),
@@ -81,7 +83,7 @@ pub enum RoundPoint {
 }
 
 // fn write_async_internal, at a byte: so many places to fill
-#[derive(Drop)]
+#[derive(Clone, Copy)]
 pub enum FillPoint {
     Free(u16),
     Fill(u16, u16),
@@ -89,7 +91,7 @@ pub enum FillPoint {
 }
 
 // which closure fn wait_on polls
-#[derive(Drop)]
+#[derive(Clone, Copy)]
 pub enum Poll {
     Batch(Round),
     Space(u16),
@@ -97,7 +99,7 @@ pub enum Poll {
 }
 
 // fn wait_on, after a poll that is not ready
-#[derive(Drop)]
+#[derive(Clone, Copy)]
 pub enum WaitPoint {
     RxTl(Round),
     TxTl(u16),
@@ -107,13 +109,13 @@ pub enum WaitPoint {
 }
 
 // fn wait_stop_det, and the clearing of STOP_DET
-#[derive(Drop)]
+#[derive(Clone, Copy)]
 pub enum StopPoint {
     Stat(Tried),
     Clear(Tried),
 }
 
-#[derive(Drop)]
+#[derive(Clone, Copy)]
 pub enum Point {
     Setup(SetupPoint),
     Abort(AbortPoint, Caller),
@@ -127,7 +129,7 @@ pub enum Point {
 }
 
 // Where a reading leads: to a point, or to the next operation.
-#[derive(Drop)]
+#[derive(Clone, Copy)]
 pub enum Step {
     Go(Point),
     Done,
@@ -136,7 +138,7 @@ pub enum Step {
 // A transfer: its point, the operation under way (where it starts in its
 // buffer, its length, and whether STOP rides on its last word), the number
 // of operations begun, and where the next read and the next write start.
-#[derive(Drop)]
+#[derive(Clone, Copy)]
 pub struct Transfer {
     pub point: Point,
     pub mode: Mode,

@@ -1,4 +1,6 @@
 // The access that is next in a transfer, and what it puts into the lent buffer.
+#![tactic(auto)]
+
 pub mod words; // for the points of each Rust function
 
 ghost use Rattle.std.specs.Prelude.{◌≡◌};

@@ -1,4 +1,6 @@
 // Where a reading leads, from any point. An abort returns to its caller here.
+#![tactic(auto)]
+
 ghost use Rattle.std.specs.Prelude.{◌≡◌};
 ghost use Rattle.master.specs.Driver.{reason_of};
 ghost use Rattle.transfer.specs.Inner.Machine.{returned, step_setup, step_abort, step_of};

@@ -1,4 +1,6 @@
 // Where a reading leads in the async reads and writes, which go by rounds over the FIFO's free places.
+#![tactic(auto)]
+
 ghost use Rattle.std.specs.Prelude.{◌≡◌};
 ghost use Rattle.std.proofs.Math.Bool as Bool;
 ghost use Rattle.transfer.specs.Inner.Machine.{queued, next_turn, fetching, filling, after_index, returned};

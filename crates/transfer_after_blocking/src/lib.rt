@@ -1,4 +1,6 @@
 // Where a reading leads in the blocking reads and writes, which go byte by byte.
+#![tactic(auto)]
+
 ghost use Rattle.std.specs.Prelude.{◌≡◌};
 ghost use Rattle.transfer.specs.Inner.Machine.{closes, returned, room_step, level_step, step_read};
 ghost use Rattle.transfer.specs.Inner.Machine.{step_write};

@@ -1,4 +1,6 @@
 // Where a reading leads in the waits: `wait_on`, and `wait_stop_det` with what it returns.
+#![tactic(auto)]
+
 ghost use Rattle.std.specs.Prelude.{◌≡◌};
 ghost use Rattle.transfer.specs.Inner.Machine.{wait_stop, try_step, stop_returned, mask_for, poll_point};
 ghost use Rattle.transfer.specs.Inner.Machine.{step_wait};

@@ -10,7 +10,7 @@ ghost use Rattle.transfer_code.specs.Inner.Coding.{low_address, over_nothing, Ro
 use regs::fields::byte_of;
 
 // How far the code is computed: the register, the bytes of each buffer that are in it, and the kind before.
-#[derive(Drop)]
+#[derive(Clone, Copy)]
 pub struct Coding {
     pub crc: u8,
     pub sent: usize,

@@ -18,7 +18,7 @@ const GOT: u32 = 0x100 + regs::DATA_CMD as u32;
 const PUT: u32 = 0x200 + regs::DATA_CMD as u32;
 
 // Where the last access to DATA_CMD stands: the entry that reads it or writes it.
-#[derive(Drop)]
+#[derive(Clone, Copy)]
 pub enum LastAt {
     Nowhere,
     Got(usize),

@@ -1,5 +1,7 @@
 // How far a transfer comes in one loop from its point: a
 // burst, if one begins there, and polls that find nothing.
+#![tactic(auto)]
+
 ghost use Rattle.std.specs.Prelude.{◌≡◌, List, ℕ, ◌/◌, ◌≤◌, length};
 ghost use Rattle.transfer_fast_blocking.specs.Inner.Bursts.{ForAny};
 ghost use Rattle.transfer_fast.specs.Inner.GoesAhead.{GoesAhead};
@@ -7,7 +9,7 @@ ghost use Rattle.transfer_fast.specs.Inner.GoesAhead.{GoesAhead};
 use transfer::{FillPoint, Point, ReadPoint, Round, RoundPoint, Step, Transfer, WritePoint};
 
 // How far a transfer came: where it leads, the readings used and the entries in the log.
-#[derive(Drop)]
+#[derive(Clone, Copy)]
 pub struct Ahead {
     pub step: Step,
     pub used: usize,

@@ -2,6 +2,8 @@
 // Each takes the place of the machine's steps between two points; what is off that way, and the end of
 // an operation, is left to the machine. The rounds of the async operations are in
 // `transfer_fast_read_async` and `transfer_fast_write_async`.
+#![tactic(auto)]
+
 pub mod read_blocking; // byte after byte
 pub mod write_blocking; // byte after byte
 
@@ -11,7 +13,7 @@ ghost use Rattle.regs.specs.Fields.{level};
 use regs::fields::level_of;
 
 // How far a burst came: the byte that is next, the readings used and the entries in the log.
-#[derive(Drop)]
+#[derive(Clone, Copy)]
 pub struct Burst {
     pub index: u16,
     pub used: usize,

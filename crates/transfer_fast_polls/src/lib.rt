@@ -1,4 +1,6 @@
 // Polls of a transfer that find nothing, in one loop each: the transfer stays at its point.
+#![tactic(auto)]
+
 pub mod flag; // RAW_INTR_STAT, for a flag
 pub mod level; // RXFLR, for a byte
 pub mod wait; // the async forms' waits
@@ -9,7 +11,7 @@ ghost use Rattle.transfer_fast_polls.specs.Inner.Stays.{Stays};
 use transfer::{AbortPoint, Caller, Point, ReadPoint, RoundPoint, Tried, WritePoint};
 
 // How far the polls came: the readings used and the entries in the log.
-#[derive(Drop)]
+#[derive(Clone, Copy)]
 pub struct Polled {
     pub used: usize,
     pub entries: usize,

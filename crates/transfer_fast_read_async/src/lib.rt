@@ -1,6 +1,8 @@
 // Bursts of an async read (`read_async_internal`): the accesses of whole rounds in one loop, where
 // the readings lead straight on. A round queues as many words as TXFLR has room for, RXFLR has
 // them all, TX_ABRT_SOURCE is clear, and the bytes are fetched.
+#![tactic(auto)]
+
 ghost use Rattle.std.specs.Prelude.{◌≡◌, ℕ, ◌+◌, ◌-◌, ◌/◌, ◌<◌, ◌≤◌, length, true};
 ghost use Rattle.transfer_fast_blocking.specs.Inner.Bursts.{ForAny};
 ghost use Rattle.transfer_fast_read_async.specs.Inner.Rounds.{round, Queued, Fetched};
@@ -77,7 +79,7 @@ fn fetch_bytes(
 }
 
 // What a round does that leads straight on: so many words and so many bytes. No words where it does not.
-#[derive(Drop)]
+#[derive(Clone, Copy)]
 struct Plan {
     words: u16,
     count: u16,
@@ -178,7 +180,7 @@ fn one_round(
 }
 
 // How far a burst came: the round that is next, the readings used and the entries in the log.
-#[derive(Drop)]
+#[derive(Clone, Copy)]
 pub struct Came {
     pub remaining: u16,
     pub queue: u16,

@@ -2,6 +2,8 @@
 // the readings lead straight on. A round fills the places that TXFLR has free. The rounds end at
 // the first place that has no byte; until then each is followed by a poll: TX_ABRT_SOURCE is clear
 // and TXFLR has room again.
+#![tactic(auto)]
+
 ghost use Rattle.std.specs.Prelude.{true, false, ◌≡◌, ◌+◌, ◌/◌, ◌<◌, ◌≤◌, leb, length};
 ghost use Rattle.transfer.specs.Inner.Machine.{byte_at};
 ghost use Rattle.transfer_fast_write_async.specs.Inner.Fills.{Polls, StraightFill, Fills};
@@ -91,7 +93,7 @@ fn byte_at(last: bool, bytes: &[u8], at: usize, i: u16) -> u8
 }
 
 // How far a burst came: where it leads, the readings used and the entries in the log.
-#[derive(Drop)]
+#[derive(Clone, Copy)]
 pub struct Came {
     pub step: Step,
     pub used: usize,

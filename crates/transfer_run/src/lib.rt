@@ -1,4 +1,5 @@
 // A master transfer driven to its end over recorded readings: its steps, one after the other.
+#![tactic(auto)]
 
 ghost use Rattle.std.specs.Prelude.{◌≡◌, ◌/◌, ◌≤◌, length};
 ghost use Rattle.regs.specs.Inner.Machine.{final, ran};
@@ -9,7 +10,7 @@ use regs::access::{Performed, Ran};
 use transfer::Transfer;
 
 // Accesses were made, so many readings are used and so many entries in the log; or the run ends.
-#[derive(Drop)]
+#[derive(Clone, Copy)]
 pub enum Stepped {
     On(Transfer, usize, usize),
     Stopped(Ran),

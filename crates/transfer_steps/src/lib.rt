@@ -1,5 +1,7 @@
 // A transfer from its first access to its end, one access a step: `start`,
 // then `advance` until `next_access` of `transfer_access` tells the answer.
+#![tactic(auto)]
+
 ghost use Rattle.std.specs.Prelude.{◌≡◌, get_or};
 ghost use Rattle.transfer.specs.Inner.Points.{with_point};
 ghost use Rattle.transfer.specs.Inner.Machine.{write_point, read_point, opened_write, opened_read, opened};

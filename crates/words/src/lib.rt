@@ -1,5 +1,7 @@
 // A transfer as 20 words that its caller holds, for callers that cannot hold an enum: C, or Rust
 // over the static library. A transfer that has ended keeps the number and the detail of its answer.
+#![tactic(auto)]
+
 ghost use Rattle.std.specs.Prelude.{◌≡◌, not, ◌<◌, ◌%◌, ◌^◌, eqb, ltb, length, get_or};
 ghost use Rattle.words_points.specs.Held.{held_of};
 ghost use Rattle.words.specs.Inner.Words.{mode_at, form_of, who_in, place_in, transfer_in, held_at};

@@ -1,5 +1,7 @@
 // The access that is next in a transfer held as words, and what it puts
 // into the lent buffer. Of the point only what the access shows is decoded.
+#![tactic(auto)]
+
 ghost use Rattle.std.specs.Prelude.{◌≡◌, List, ℕ, get_or};
 ghost use Rattle.transfer.specs.Inner.Machine.{next_of};
 ghost use Rattle.words_points.specs.Held.{store_held};

@@ -1,5 +1,7 @@
 // The packet error code of a transfer by steps. Its caller holds it as two bytes beside the words: the CRC-8
 // register, and the direction of the last data byte (0 read, 1 written; any other: there was none).
+#![tactic(auto)]
+
 ghost use Rattle.std.specs.Prelude.{◌≡◌, length};
 ghost use Rattle.master.specs.Inner.Running.{with_byte};
 ghost use Rattle.words_code.specs.Inner.Code.{sum, fresh_sum, sum_in, word_by, number_by};

@@ -1,5 +1,7 @@
 // A transfer's point as numbers: each point has a row of them.
 // The end keeps the number and the detail of the answer.
+#![tactic(auto)]
+
 pub mod points; // numbers as points
 pub mod rows; // points as numbers
 
@@ -8,7 +10,7 @@ ghost use Rattle.std.specs.Prelude.{◌≡◌};
 // `Result<(), Error>`: 0 fine, 1 NoAcknowledge, 2 ArbitrationLoss,
 // 3 TxNotEmpty with the count, 5 DataNotAcknowledged with the word,
 // any other Other with the word.
-#[derive(Drop)]
+#[derive(Clone, Copy)]
 pub struct Failure {
     pub kind: u64,
     pub count: u16,
@@ -18,7 +20,7 @@ pub struct Failure {
 // Who waits, and for what: a caller of `read_and_clear_abort_reason` or a poll
 // (0 a byte read, 1 a byte written, 2 a round, 3 a free place, any other STOP),
 // the byte, the words or bytes left, the counts of a round, and what failed.
-#[derive(Drop)]
+#[derive(Clone, Copy)]
 pub struct Who {
     pub kind: u64,
     pub index: u16,
@@ -31,7 +33,7 @@ pub struct Who {
 
 // A point: its group and its row there, a word, and who waits. Group 8
 // is the end: the row is the answer's number and the word its detail.
-#[derive(Drop)]
+#[derive(Clone, Copy)]
 pub struct Place {
     pub group: u64,
     pub row: u64,

@@ -1,5 +1,7 @@
 // The frequent steps of a transfer, made on its words: nothing is decoded, and
 // only words that change are stored. What is not frequent is left as it is.
+#![tactic(auto)]
+
 mod aborts; // behind fn read_and_clear_abort_reason
 mod read_async; // by rounds over the FIFO
 mod read_blocking; // byte by byte
