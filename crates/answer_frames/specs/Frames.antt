@@ -1,6 +1,5 @@
 -- Which answer frame a line is (docs/MANUAL.md, "Frames").
-use Rattle.std.specs.Prelude.{ℕ, Bool, true, false, List, eqb, ltb, length}
-use Rattle.regs.specs.Program.{if◌then◌else◌}
+use Rattle.std.specs.Prelude.{ℕ, Bool, true, false, List, eqb, ltb, length, if◌then◌else◌}
 use Rattle.text_hex.specs.Text.{number_at}
 use Rattle.text_hex.specs.Pairs.{whole_pairs}
 use Rattle.text_hex.specs.declared.digits.Value.{Value}

@@ -1,6 +1,5 @@
 -- Lines of answers in order: their numbers, which of them are no answer frames, and the log that is kept of the open call.
-use Rattle.std.specs.Prelude.{ℕ, ◌+◌, ◌-◌, ◌^◌, ◌≤◌, Bool, ◌||◌, List, ◌++◌, ◌≡◌, ltb, length, take}
-use Rattle.regs.specs.Program.{if◌then◌else◌}
+use Rattle.std.specs.Prelude.{ℕ, ◌+◌, ◌-◌, ◌^◌, ◌≤◌, Bool, ◌||◌, List, ◌++◌, ◌≡◌, ltb, length, take, if◌then◌else◌}
 use Rattle.text_tables.specs.Ascii.{ascii}
 use Rattle.text_tables.specs.Decimal.{digits}
 use Rattle.answer_frames.specs.Frames.{frame_of, is_unknown}

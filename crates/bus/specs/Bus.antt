@@ -1,7 +1,6 @@
 -- What a log makes of the bus (UM10204, and DATA_CMD in the RP2040 datasheet), from an idle bus and with IC_RESTART_EN set.
-use Rattle.std.specs.Prelude.{ℕ, ◌+◌, ◌*◌, Bool, true, false, not, ◌&&◌, List, [], ◌∷◌, ◌++◌, map, get_or}
+use Rattle.std.specs.Prelude.{ℕ, ◌+◌, ◌*◌, Bool, true, false, not, ◌&&◌, List, [], ◌∷◌, ◌++◌, map, get_or, if◌then◌else◌}
 use Rattle.regs.specs.declared.access.Entry.{Entry}
-use Rattle.regs.specs.Program.{if◌then◌else◌}
 use Rattle.regs.specs.Registers.{TAR, DATA_CMD}
 use Rattle.regs.specs.Fields.{dat, cmd, stop, restart, address_field}
 use Rattle.regs.specs.Log.{written_to}

@@ -1,8 +1,7 @@
 -- What one entry of a log adds to the sequence. `explain` shows it beside each word.
-use Rattle.std.specs.Prelude.{ℕ, List, [], eqb}
+use Rattle.std.specs.Prelude.{ℕ, List, [], eqb, if◌then◌else◌}
 use Rattle.regs.specs.declared.access.Entry.{Entry}
 use Rattle.regs.specs.declared.access.Entry.TheVariants.{Read, Write, Marked}
-use Rattle.regs.specs.Program.{if◌then◌else◌}
 use Rattle.bus.specs.declared.Bus.{Bus}
 use Rattle.bus.specs.declared.Written.{Written}
 use Rattle.bus.specs.declared.Written.TheVariants.{Nothing, Value}

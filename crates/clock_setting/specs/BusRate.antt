@@ -25,7 +25,7 @@ answer_of frequency clk = (expected (set_config frequency clk) (replicate 14 0) 
 abbrev pub divided : ℕ → ℕ → Rated
 divided clk periods = At (record { hz = clk / periods; remainder = clk % periods })
 
--- a setting that is refused has no rate; of the other replies `answer-of` gives only Accepted
+-- a setting that is refused has no rate; of the other replies `answer_of` gives only Accepted
 abbrev pub unless_refused : Reply → Rated → Rated
 unless_refused (Answered (A.Refused why)) r = Refused why
 unless_refused (Answered A.Accepted) r = r
@@ -74,7 +74,7 @@ RatedAs clk LogFull log r = Unit {0}
 
 -- This holds of every call of `set_config`, by what its contract says of the lent log before and after and of what is
 -- returned: the reply is the returned one, and the log is read back from the words that the call left. There is such a call
--- with neither 18 nor 19 for every setting (`answer-of`), so this determines the rate.
+-- with neither 18 nor 19 for every setting (`answer_of`), so this determines the rate.
 abbrev pub RatedAsSet : Type 0
 RatedAsSet = (frequency clk : ℕ) (before after readings : List ℕ) (ran : Ran)
     → Leaves (expected (set_config frequency clk) before readings [] tt) before after ran

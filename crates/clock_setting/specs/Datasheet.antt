@@ -1,6 +1,5 @@
 -- The counts of a setting, and what the RP2040 datasheet and UM10204 ask of them.
-use Rattle.std.specs.Prelude.{ℕ, ◌+◌, ◌*◌, ◌/◌, ◌%◌, ◌<◌, ◌≤◌, ◌≡◌, ltb}
-use Rattle.regs.specs.Program.{if◌then◌else◌}
+use Rattle.std.specs.Prelude.{ℕ, ◌+◌, ◌*◌, ◌/◌, ◌%◌, ◌<◌, ◌≤◌, ◌≡◌, ltb, if◌then◌else◌}
 use Rattle.clock_setting.specs.SetConfig.{period, lcnt_of, hcnt_of, hold_below_1_mhz, hold_at_1_mhz}
 
 -- the counts of a setting

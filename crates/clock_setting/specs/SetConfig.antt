@@ -1,6 +1,6 @@
 -- `set_config` of src/i2c.rs, with the clock as an argument, and the refusals that are added (docs/MANUAL.md, "The numbers").
-use Rattle.std.specs.Prelude.{ℕ, ◌+◌, ◌*◌, ◌-◌, ◌/◌, ◌%◌, ◌^◌, ◌||◌, eqb, ltb}
-use Rattle.regs.specs.Program.{if◌then◌else◌, Program, ◌>>=◌, ◌>>◌, return, exit, put, modify, when}
+use Rattle.std.specs.Prelude.{ℕ, ◌+◌, ◌*◌, ◌-◌, ◌/◌, ◌%◌, ◌^◌, ◌||◌, eqb, ltb, if◌then◌else◌}
+use Rattle.regs.specs.Program.{Program, ◌>>=◌, ◌>>◌, return, exit, put, modify, when}
 use Rattle.regs.specs.Registers.{ENABLE, FS_SCL_HCNT, FS_SCL_LCNT, FS_SPKLEN, SDA_HOLD}
 use Rattle.regs.specs.Fields.{set_ic_sda_tx_hold}
 use Rattle.regs.specs.declared.answers.Answer.{Answer}

@@ -1,6 +1,6 @@
 -- The table of refusals (docs/MANUAL.md, "The numbers") for clock settings: its rows, the first that applies, and what that row leaves.
-use Rattle.std.specs.Prelude.{ℕ, zero, suc, ◌-◌, ◌<◌, ◌≤◌, List, [], ◌∷◌, ◌↔◌, ◌≡◌, ltb}
-use Rattle.regs.specs.Program.{if◌then◌else◌, Outcome}
+use Rattle.std.specs.Prelude.{ℕ, zero, suc, ◌-◌, ◌<◌, ◌≤◌, List, [], ◌∷◌, ◌↔◌, ◌≡◌, ltb, if◌then◌else◌}
+use Rattle.regs.specs.Program.{Outcome}
 use Rattle.regs.specs.Registers.{ENABLE, FS_SCL_HCNT, FS_SCL_LCNT, FS_SPKLEN, SDA_HOLD}
 use Rattle.regs.specs.Fields.{set_ic_sda_tx_hold}
 use Rattle.regs.specs.Answers.{number}

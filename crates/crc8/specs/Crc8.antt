@@ -1,9 +1,8 @@
 -- The packet error code of SMBus: CRC-8 with the polynomial x^8 + x^2 + x + 1, from the start value 0, bit by bit.
-use Rattle.std.specs.Prelude.{ℕ, ◌*◌, ◌%◌, Bool, List, [], ◌∷◌}
+use Rattle.std.specs.Prelude.{ℕ, ◌*◌, ◌%◌, Bool, List, [], ◌∷◌, if◌then◌else◌}
 use Rattle.std.specs.Bool.{xor}
 use Rattle.std.specs.Int.Bits.{bit_xor}
 use Rattle.regs.specs.Fields.{bit}
-use Rattle.regs.specs.Program.{if◌then◌else◌}
 
 -- the polynomial without its highest term, which falls out
 abbrev pub POLYNOMIAL : ℕ

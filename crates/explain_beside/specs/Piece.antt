@@ -1,6 +1,5 @@
 -- The piece of the bus sequence that a frame's word makes after the frames before it, and the text of a frame with its piece.
-use Rattle.std.specs.Prelude.{ℕ, ◌+◌, ◌-◌, ◌%◌, List, [], ◌∷◌, ◌++◌, eqb, ltb, length, replicate}
-use Rattle.regs.specs.Program.{if◌then◌else◌}
+use Rattle.std.specs.Prelude.{ℕ, ◌+◌, ◌-◌, ◌%◌, List, [], ◌∷◌, ◌++◌, eqb, ltb, length, replicate, if◌then◌else◌}
 use Rattle.regs.specs.Registers.{TAR, DATA_CMD}
 use Rattle.regs.specs.Fields.{address_field}
 use Rattle.bus.specs.declared.Bus.{Bus}

@@ -1,6 +1,5 @@
 -- The text of a frame.
-use Rattle.std.specs.Prelude.{ℕ, zero, suc, ◌+◌, ◌*◌, ◌/◌, ◌%◌, Bool, List, [], ◌∷◌, ◌++◌, eqb, ltb, length, take, drop}
-use Rattle.regs.specs.Program.{if◌then◌else◌}
+use Rattle.std.specs.Prelude.{ℕ, ◌/◌, ◌%◌, List, [], ◌∷◌, ◌++◌, eqb, ltb, length, drop, if◌then◌else◌}
 use Rattle.text_hex.specs.Text.{LF, hex2, hex8}
 use Rattle.answer_frames.specs.declared.Frame.{Frame}
 use Rattle.answer_frames.specs.declared.Frame.TheVariants.{Read, Write, Pending, BlockReset, Buffer, Answer, Unknown}

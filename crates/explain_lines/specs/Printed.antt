@@ -1,6 +1,5 @@
 -- What explain prints of an input, line by line. This is the statement.
-use Rattle.std.specs.Prelude.{ℕ, List, [], ◌∷◌, ◌++◌}
-use Rattle.regs.specs.Program.{if◌then◌else◌}
+use Rattle.std.specs.Prelude.{ℕ, List, [], ◌∷◌, ◌++◌, if◌then◌else◌}
 use Rattle.regs.specs.Log.{decode}
 use Rattle.bus.specs.Bus.{bus_sequence}
 use Rattle.text_hex.specs.Text.{lines}

@@ -1,14 +1,13 @@
 -- The eight forms of a transfer that `celadonsaw_start` and `celadonsaw_start_pec` are given by number, and the program of
 -- each, `pec` where it has a packet error code.
-use Rattle.std.specs.Prelude.{ℕ, ◌%◌, Bool, true, false, ◌&&◌, List, [], ◌∷◌, eqb, ltb, length}
-use Rattle.regs.specs.Program.{if◌then◌else◌}
+use Rattle.std.specs.Prelude.{ℕ, ◌%◌, Bool, true, false, ◌&&◌, List, [], ◌∷◌, eqb, ltb, length, if◌then◌else◌}
 use Rattle.regs.specs.declared.answers.Answer.{Answer}
 use Rattle.master.specs.Calls.{Lent, reads_into, writes_from, writes_then_reads, transacts, Call, program}
 use Rattle.master.specs.Driver.{Driver}
 use Rattle.master.specs.Operations.{lists, READ, WRITE, Mode, blocking, async}
 use Rattle.master.specs.Transfer.{within}
 
--- forms 0 to 3 are blocking, 4 to 7 async; of four, a read, a write, a write_read and a transaction
+-- forms 0 to 3 are blocking, 4 to 7 async; of four, a read, a write, a write-read and a transaction
 pub data Shape : Type 0 where
   read write write_read transaction : Shape
 
@@ -20,7 +19,7 @@ shape_of form =
 unfoldable pub mode_of_form : ℕ → Mode
 mode_of_form form = if ltb 3 form then async else blocking
 
--- a read is lent the read buffer, a write the write buffer, a write_read both, a transaction kinds and lengths beside both
+-- a read is lent the read buffer, a write the write buffer, a write-read both, a transaction kinds and lengths beside both
 abbrev pub lent_by : Shape → List ℕ → List ℕ → List ℕ → List ℕ → Lent
 lent_by read kinds lengths bytes buffer = reads_into buffer
 lent_by write kinds lengths bytes buffer = writes_from bytes
@@ -37,7 +36,7 @@ same [] (y ∷ ys) = false
 same (x ∷ xs) [] = false
 same (x ∷ xs) (y ∷ ys) = eqb x y && same xs ys
 
--- the kinds of a read, of a write and of a write_read; a transaction has Any
+-- the kinds of a read, of a write and of a write-read; a transaction has any
 abbrev pub kinds_fit : Shape → List ℕ → Bool
 kinds_fit read kinds = same kinds (READ ∷ [])
 kinds_fit write kinds = same kinds (WRITE ∷ [])

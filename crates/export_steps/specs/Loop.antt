@@ -93,7 +93,7 @@ told o = record {
   detail = Answers.detail o.answer;
 }
 
--- Any form, address, kinds and lengths, over Any readings and with the room of Any log: a loop from what `celadonsaw_start`
+-- Any form, address, kinds and lengths, over any readings and with the room of any log: a loop from what `celadonsaw_start`
 -- or `celadonsaw_start_pec` left leaves what the form's call is to leave. Of the caller it asks that `written` and `room`
 -- were the lengths of the write and the read buffer that each step is lent, and, where they are in a code, that the bytes
 -- to write are bytes.
@@ -122,7 +122,7 @@ IsHeld false words = HeldWords words
 IsHeld true held = HeldWords held.0 × HeldCode held.1
 
 -- Let `next` give what `celadonsaw_step` or `celadonsaw_advance`, or those that end in `_pec`, leave after what is held and a
--- reading of 32 bits, as their contracts say. Then from anything held and Any buffer there is a loop, over Any such readings:
+-- reading of 32 bits, as their contracts say. Then from anything held and any buffer there is a loop, over any such readings:
 -- `LoopAsCalled` speaks of every caller.
 abbrev pub EveryLoop : Type 0
 EveryLoop = (pec : Bool) (kinds lengths bytes : List ℕ) (next : Holding pec → ℕ → Holding pec)

@@ -1,7 +1,7 @@
 -- Stepping the transfers by hand (`transfer_steps`, `transfer_access`; with a packet error code its running code beside them)
 -- leaves what the calls are to leave.
-use Rattle.std.specs.Prelude.{ℕ, ◌/◌, ◌<◌, Bool, true, false, List, [], ◌∷◌, ◌≡◌, length}
-use Rattle.regs.specs.Program.{if◌then◌else◌, Outcome, just}
+use Rattle.std.specs.Prelude.{ℕ, ◌/◌, ◌<◌, Bool, true, false, List, [], ◌∷◌, ◌≡◌, length, if◌then◌else◌}
+use Rattle.regs.specs.Program.{Outcome, just}
 use Rattle.regs.specs.Log.{Each}
 use Rattle.regs.specs.Steps.{Machine, stepped}
 use Rattle.regs.specs.Inner.Summed.{summed_machine}

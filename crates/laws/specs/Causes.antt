@@ -1,7 +1,6 @@
 -- The table of refusals (docs/MANUAL.md, "The numbers"), its column "No.", for the rows that say "no access": why a call
 -- is turned down before its first access, in the order in which these causes count.
-use Rattle.std.specs.Prelude.{ℕ, zero, suc, Bool, true, false, not, ◌&&◌, List, [], ◌∷◌, ◌≡◌, eqb, ltb, length}
-use Rattle.regs.specs.Program.{if◌then◌else◌}
+use Rattle.std.specs.Prelude.{ℕ, zero, suc, Bool, true, false, not, ◌&&◌, List, [], ◌∷◌, ◌≡◌, eqb, ltb, length, if◌then◌else◌}
 use Rattle.regs.specs.Answers.{number}
 use Rattle.regs.specs.Left.{no_access}
 use Rattle.regs.specs.declared.answers.Reply.{Reply}

@@ -1,10 +1,10 @@
 -- src/i2c.rs: the async reads and writes.
-use Rattle.std.specs.Prelude.{ℕ, zero, suc, ◌+◌, ◌-◌, min, Bool, true, false, not, ◌&&◌, ◌||◌, List, [], ◌∷◌, eqb, ltb}
+use Rattle.std.specs.Prelude.{ℕ, zero, suc, ◌+◌, ◌-◌, min, Bool, true, false, not, ◌&&◌, ◌||◌, List, [], ◌∷◌, eqb, ltb, if◌then◌else◌}
 use Rattle.regs.specs.declared.answers.Refusal.TheVariants.{InvalidReadBufferLength}
 use Rattle.regs.specs.declared.answers.Answer.TheVariants.{Refused}
 use Rattle.regs.specs.Registers.{DATA_CMD, INTR_MASK, RAW_INTR_STAT, RX_TL, TX_TL, CLR_STOP_DET}
 use Rattle.regs.specs.Fields.{command_word, dat, stop_det, set_m_rx_full, set_m_tx_empty, set_m_tx_abrt, set_m_stop_det}
-use Rattle.regs.specs.Program.{if◌then◌else◌, ◌>>=◌, ◌>>◌, return, exit, get, put, modify, store, skip, when, ok}
+use Rattle.regs.specs.Program.{◌>>=◌, ◌>>◌, return, exit, get, put, modify, store, skip, when, ok}
 use Rattle.regs.specs.Program.{err, Turn, again, done, loop, Poll, pending, ready, wait_on}
 use Rattle.master.specs.Driver.{Driver, Reasons, Tried, is_err, try, tx_fifo_capacity, tx_fifo_full}
 use Rattle.master.specs.Driver.{rx_fifo_len, read_and_clear_abort_reason}

@@ -1,7 +1,7 @@
--- What Any of the calls leaves of the lent read buffer, whatever it answers: the bytes that it read from DATA_CMD, in
+-- What any of the calls leaves of the lent read buffer, whatever it answers: the bytes that it read from DATA_CMD, in
 -- order, then the rest as it was. Aborts, a log that is full and readings used up are among the answers.
-use Rattle.std.specs.Prelude.{ℕ, ◌+◌, ◌≤◌, true, ◌&&◌, List, ◌++◌, ◌≡◌, length, take, drop}
-use Rattle.regs.specs.Program.{if◌then◌else◌, Outcome}
+use Rattle.std.specs.Prelude.{ℕ, ◌+◌, ◌≤◌, true, ◌&&◌, List, ◌++◌, ◌≡◌, length, take, drop, if◌then◌else◌}
+use Rattle.regs.specs.Program.{Outcome}
 use Rattle.regs.specs.Left.{bytes_read}
 use Rattle.regs.specs.declared.answers.Reply.{Reply}
 use Rattle.master.specs.Coded.{ends_in_read}

@@ -1,6 +1,6 @@
 -- The calls as they are made, eight plain ones and eight with a packet error code: what is lent to each, the program that
 -- it runs and the operations that it asks for.
-use Rattle.std.specs.Prelude.{ℕ, Bool, true, false, ◌&&◌, List, [], ◌∷◌, ◌≡◌, length}
+use Rattle.std.specs.Prelude.{ℕ, Bool, true, false, ◌&&◌, List, [], ◌≡◌, length}
 use Rattle.regs.specs.Program.{Outcome}
 use Rattle.regs.specs.Log.{expected}
 use Rattle.regs.specs.declared.answers.Answer.{Answer}
@@ -78,7 +78,7 @@ bytes_in (writes_from bytes) = bytes
 bytes_in (writes_then_reads bytes buffer) = bytes
 bytes_in (transacts kinds lengths bytes buffer) = bytes
 
--- the one read or write, a write_read's write and then its read, or a transaction's as listed; a code is not among them
+-- the one read or write, a write-read's write and then its read, or a transaction's as listed; a code is not among them
 abbrev pub operations_in : Lent → List (Operation ℕ)
 operations_in lent = operations_of (arguments lent)
 

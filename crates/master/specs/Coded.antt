@@ -1,7 +1,7 @@
 -- Transfers with a packet error code (SMBus). They stand beside the plain ones, and their public names end in `_pec`.
 -- The last operation is one byte longer; that byte is the code, a CRC-8 over every byte of the message. Where the last
 -- operation is a write it is sent, where it is a read it is fetched and tested. Without operations there is no code.
-use Rattle.std.specs.Prelude.{ℕ, zero, suc, ◌+◌, Bool, true, false, not, ◌&&◌, ◌||◌, List, [], ◌∷◌, ◌++◌, eqb, ltb, get_or}
+use Rattle.std.specs.Prelude.{ℕ, zero, suc, ◌+◌, Bool, true, false, not, ◌&&◌, ◌||◌, List, [], ◌∷◌, ◌++◌, eqb, ltb, get_or, if◌then◌else◌}
 use Rattle.crc8.specs.Crc8.{crc8}
 use Rattle.regs.specs.declared.answers.Answer.{Answer}
 use Rattle.regs.specs.declared.answers.Answer.TheVariants.{Accepted, Heard, Responded, Refused}
@@ -9,7 +9,7 @@ use Rattle.regs.specs.declared.answers.Refusal.TheVariants.{InvalidWriteBufferLe
 use Rattle.regs.specs.Registers.{DATA_CMD}
 use Rattle.regs.specs.Fields.{command_word, cmd, stop}
 use Rattle.regs.specs.Left.{bytes_read}
-use Rattle.regs.specs.Program.{if◌then◌else◌, ◌>>=◌, ◌>>◌, return, exit, skip, when}
+use Rattle.regs.specs.Program.{◌>>◌, return, exit, skip, when}
 use Rattle.regs.specs.Watched.{Watcher, watched}
 use Rattle.bus.specs.Bus.{Sign, START, RESTART, STOP, address_byte, written, read_slot}
 use Rattle.master.specs.Driver.{Driver, Reasons, setup}

@@ -1,5 +1,5 @@
 -- What holds of every transfer with a packet error code, over what it leaves.
-use Rattle.std.specs.Prelude.{ℕ, zero, suc, ◌^◌, ◌<◌, Bool, true, false, List, [], ◌∷◌, ◌++◌, ◌≢◌, ◌≡◌, eqb, length, get_or}
+use Rattle.std.specs.Prelude.{ℕ, zero, suc, ◌^◌, ◌<◌, Bool, true, List, [], ◌∷◌, ◌++◌, ◌≢◌, ◌≡◌, eqb, length, get_or, if◌then◌else◌}
 use Rattle.std.specs.Int.Bits.{bit_xor}
 use Rattle.crc8.specs.Crc8.{crc8}
 use Rattle.crc8.specs.Laws.{flipped}
@@ -9,11 +9,11 @@ use Rattle.regs.specs.declared.answers.Reply.{Reply}
 use Rattle.regs.specs.declared.answers.Reply.TheVariants.{Answered, OutOfReadings, LogFull}
 use Rattle.regs.specs.Left.{bytes_read}
 use Rattle.regs.specs.Log.{Each, expected}
-use Rattle.regs.specs.Program.{if◌then◌else◌, Outcome}
+use Rattle.regs.specs.Program.{Outcome}
 use Rattle.regs.specs.Answers.{number}
 use Rattle.bus.specs.Bus.{Sign, START, RESTART, STOP, address_byte, written, read_slot}
 use Rattle.master.specs.Driver.{reason_of}
-use Rattle.master.specs.Operations.{Operation, writes, reads, Mode, blocking, async}
+use Rattle.master.specs.Operations.{Operation, writes, reads, Mode}
 use Rattle.master.specs.Operations.{Transfer, read, write, write_read, transaction, operations_of}
 use Rattle.master.specs.Transfer.{transfer}
 use Rattle.master.specs.Demand3.{NotEmpty}

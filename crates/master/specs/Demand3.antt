@@ -1,7 +1,7 @@
 -- Demand 3: two master calls that succeed, plain ones or with a packet error code, make the same bus sequence exactly if
 -- their addresses and their joined operations are the same. The code counts as a byte of the last operation.
 -- The bus sequence (crates/bus/specs/Bus.antt) begins on an idle bus with restarts enabled.
-use Rattle.std.specs.Prelude.{ℕ, zero, suc, ◌+◌, ◌*◌, ◌≤◌, ◌<◌, ◌≡◌, ◌≢◌, ◌↔◌, true, ◌&&◌, List, [], ◌∷◌, ◌++◌, eqb, take}
+use Rattle.std.specs.Prelude.{ℕ, zero, suc, ◌+◌, ◌*◌, ◌≤◌, ◌<◌, ◌≡◌, ◌≢◌, ◌↔◌, true, ◌&&◌, List, [], ◌∷◌, ◌++◌, eqb, take, if◌then◌else◌}
 use Rattle.crc8.specs.Crc8.{crc8}
 use Rattle.regs.specs.declared.access.Entry.{Entry}
 use Rattle.regs.specs.declared.access.Entry.TheVariants.{Read, Write, Marked}
@@ -9,7 +9,6 @@ use Rattle.regs.specs.declared.access.Ran.{Ran}
 use Rattle.regs.specs.Answers.{number}
 use Rattle.regs.specs.Registers.{DATA_CMD, RXFLR}
 use Rattle.regs.specs.Fields.{cmd, level}
-use Rattle.regs.specs.Program.{if◌then◌else◌}
 use Rattle.regs.specs.Left.{bytes_read}
 use Rattle.regs.specs.Log.{Each, Leaves, decode}
 use Rattle.bus.specs.Bus.{Sign, bus_sequence}

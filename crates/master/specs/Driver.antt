@@ -1,5 +1,5 @@
 -- src/i2c.rs: what blocking and async transfers share. The functions stand in the Rust's names.
-use Rattle.std.specs.Prelude.{ℕ, ◌-◌, Bool, true, false, not, eqb, ltb}
+use Rattle.std.specs.Prelude.{ℕ, ◌-◌, Bool, true, false, not, eqb, ltb, if◌then◌else◌}
 use Rattle.regs.specs.declared.answers.AbortReason.{AbortReason}
 use Rattle.regs.specs.declared.answers.AbortReason.TheVariants.{NoAcknowledge, ArbitrationLoss, Other, DataNotAcknowledged}
 use Rattle.regs.specs.declared.answers.Refusal.TheVariants.{AddressOutOfRange, Abort, TxLevelOutOfRange}
@@ -7,7 +7,7 @@ use Rattle.regs.specs.declared.answers.Answer.{Answer}
 use Rattle.regs.specs.declared.answers.Answer.TheVariants.{Refused}
 use Rattle.regs.specs.Registers.{TAR, ENABLE, TXFLR, RXFLR, TX_ABRT_SOURCE, CLR_TX_ABRT}
 use Rattle.regs.specs.Fields.{address_field, level, no_acknowledge, txdata_noack, arb_lost}
-use Rattle.regs.specs.Program.{if◌then◌else◌, Program, ◌>>=◌, ◌>>◌, return, exit, get, put, when, loop, Turn, again, done, Result, ok, err}
+use Rattle.regs.specs.Program.{Program, ◌>>=◌, ◌>>◌, return, exit, get, put, when, loop, Turn, again, done, Result, ok, err}
 
 -- a part of the master driver, which has no state of its own
 abbrev pub Driver : Type 0 → Type 0
@@ -66,8 +66,8 @@ rx_fifo_len = do
   rxflr ← get RXFLR
   return (level rxflr)
 
--- The reason that is told of an abort's raw word. The transfers are the Rust's text over Any such reasons. The Rust's and
--- this driver's follow; `beside-rust` (crate master_reasons) says where calls with them differ.
+-- The reason that is told of an abort's raw word. The transfers are the Rust's text over any such reasons. The Rust's and
+-- this driver's follow; `beside_rust` (crate master_reasons) says where calls with them differ.
 abbrev pub Reasons : Type 0
 Reasons = ℕ → AbortReason
 

@@ -1,6 +1,5 @@
 -- What a transfer is asked to do: operations, and how kinds and lengths beside one write and one read buffer list them.
-use Rattle.std.specs.Prelude.{ℕ, ◌+◌, Bool, true, ◌&&◌, ◌||◌, List, [], ◌∷◌, eqb, leb, length, take, drop}
-use Rattle.regs.specs.Program.{if◌then◌else◌}
+use Rattle.std.specs.Prelude.{ℕ, ◌+◌, Bool, true, ◌&&◌, ◌||◌, List, [], ◌∷◌, eqb, leb, length, take, drop, if◌then◌else◌}
 
 -- a write of bytes, each a B, or a read of so many bytes
 pub data Operation (B : Type 0) : Type 0 where
@@ -17,7 +16,7 @@ pub data Transfer (B : Type 0) : Type 0 where
 pub data Mode : Type 0 where
   blocking async : Mode
 
--- the one read or write, a write_read's write and then its read, or a transaction's as listed
+-- the one read or write, a write-read's write and then its read, or a transaction's as listed
 abbrev pub operations_of : {B : Type 0} → Transfer B → List (Operation B)
 operations_of (read len) = reads len ∷ []
 operations_of (write bytes) = writes bytes ∷ []

@@ -3,7 +3,7 @@ use Rattle.std.specs.Prelude.{ℕ, ◌+◌, Bool, true, false, not, ◌&&◌, Li
 use Rattle.regs.specs.declared.answers.Refusal.TheVariants.{OverLimits}
 use Rattle.regs.specs.declared.answers.Answer.{Answer}
 use Rattle.regs.specs.declared.answers.Answer.TheVariants.{Accepted, Refused}
-use Rattle.regs.specs.Program.{◌>>=◌, ◌>>◌, return, exit, skip, when}
+use Rattle.regs.specs.Program.{◌>>◌, return, exit, skip, when}
 use Rattle.master.specs.Driver.{Driver, Reasons, reason_of, setup}
 use Rattle.master.specs.Blocking.{read_blocking_internal, write_blocking_internal}
 use Rattle.master.specs.Async.{is_empty, read_async_internal, write_async_internal}

@@ -1,5 +1,5 @@
 -- This driver's reasons for an abort beside the Rust's: for which words they differ, and that nothing else of a call does.
-use Rattle.std.specs.Prelude.{ℕ, Bool, true, false, not, ◌&&◌, List, [], ◌∷◌, ◌≡◌, eqb}
+use Rattle.std.specs.Prelude.{ℕ, Bool, true, false, not, ◌&&◌, List, [], ◌∷◌, ◌≡◌, eqb, if◌then◌else◌}
 use Rattle.regs.specs.declared.access.Entry.{Entry}
 use Rattle.regs.specs.declared.access.Entry.TheVariants.{Read, Write, Marked}
 use Rattle.regs.specs.declared.answers.AbortReason.TheVariants.{ArbitrationLoss, Other, DataNotAcknowledged}
@@ -12,7 +12,7 @@ use Rattle.regs.specs.Answers.{answer_number}
 use Rattle.regs.specs.Fields.{no_acknowledge, txdata_noack, arb_lost}
 use Rattle.regs.specs.Left.{among}
 use Rattle.regs.specs.Log.{expected}
-use Rattle.regs.specs.Program.{if◌then◌else◌, Outcome}
+use Rattle.regs.specs.Program.{Outcome}
 use Rattle.regs.specs.Registers.{TX_ABRT_SOURCE}
 use Rattle.master.specs.Driver.{Driver, Reasons, rust_reason, reason_of}
 use Rattle.master.specs.Operations.{Mode, Transfer}
@@ -79,7 +79,7 @@ pub record SameBut (f g : Reasons) (o p : Outcome (Unit {0}) Reply) : Type 0 whe
   pub buffer : o.buffer ≡ p.buffer
   pub answer : ToldBy f g (aborted_by o.log) o.answer p.answer
 
--- of every call, plain or with a packet error code, for Any two ways to tell a reason
+-- of every call, plain or with a packet error code, for any two ways to tell a reason
 abbrev pub SameButReasons : Type 0
 SameButReasons = (f g : Reasons) (c : Call) (log readings : List ℕ)
     → SameBut f g (left_with f c log readings) (left_with g c log readings)

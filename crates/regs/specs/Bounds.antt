@@ -7,7 +7,7 @@ use Rattle.regs.specs.declared.answers.Answer.{Answer}
 use Rattle.regs.specs.declared.answers.Reply.TheVariants.{Answered, LogFull, OutOfReadings}
 
 pub record Bounded {S : Type 0} (p : Program S Answer Answer) : Type 0 where
-  -- Any bound of loops above the room gives the same outcome
+  -- any bound of loops above the room gives the same outcome
   pub turns : (room n : ℕ) → room < n → (readings buffer : List ℕ) (me : S)
       → outcome Answered LogFull OutOfReadings (p n ends) room readings buffer me
       ≡ outcome Answered LogFull OutOfReadings (p (suc room) ends) room readings buffer me

@@ -1,9 +1,9 @@
 -- What a call leaves as it was, by the last column of the table of refusals (docs/MANUAL.md, "The numbers"): all, where
 -- the row says that there is no access; the rest of the buffer, where bytes were received before the call ended.
-use Rattle.std.specs.Prelude.{ℕ, ◌≤◌, Bool, false, ◌||◌, List, [], ◌∷◌, ◌++◌, ◌≡◌, eqb, length, take, drop}
+use Rattle.std.specs.Prelude.{ℕ, ◌≤◌, Bool, false, ◌||◌, List, [], ◌∷◌, ◌++◌, ◌≡◌, eqb, length, take, drop, if◌then◌else◌}
 use Rattle.regs.specs.Registers.{DATA_CMD}
 use Rattle.regs.specs.Fields.{dat}
-use Rattle.regs.specs.Program.{if◌then◌else◌, Outcome}
+use Rattle.regs.specs.Program.{Outcome}
 use Rattle.regs.specs.Answers.{number}
 use Rattle.regs.specs.declared.access.Entry.{Entry}
 use Rattle.regs.specs.declared.access.Entry.TheVariants.{Read, Write, Marked}

@@ -1,7 +1,7 @@
 -- Laws that are proved of every call of clock, master and slave, whatever is lent to it, read by it and known to it
 -- before: its accesses are legal; CON, TAR, SAR, the clock's counts and the hold count are written only while the block
 -- is disabled (RP2040 datasheet, I2C chapter: IC_ENABLE bit 0 clear); and no refusal is TxNotEmpty.
-use Rattle.std.specs.Prelude.{ℕ, Bool, true, false, not, ◌||◌, List, [], ◌∷◌, ◌≢◌, eqb, T}
+use Rattle.std.specs.Prelude.{ℕ, Bool, false, not, ◌||◌, List, [], ◌∷◌, ◌≢◌, eqb, T, if◌then◌else◌}
 use Rattle.regs.specs.declared.access.Entry.{Entry}
 use Rattle.regs.specs.declared.access.Entry.TheVariants.{Read, Write, Marked}
 use Rattle.regs.specs.declared.answers.AbortReason.TheVariants.{TxNotEmpty}
@@ -11,7 +11,7 @@ use Rattle.regs.specs.declared.answers.Answer.TheVariants.{Refused}
 use Rattle.regs.specs.declared.answers.Reply.TheVariants.{Answered}
 use Rattle.regs.specs.Registers.{CON, TAR, SAR, FS_SCL_HCNT, FS_SCL_LCNT, ENABLE, SDA_HOLD, FS_SPKLEN}
 use Rattle.regs.specs.Fields.{bit}
-use Rattle.regs.specs.Program.{if◌then◌else◌, BLOCK_RESET, Program}
+use Rattle.regs.specs.Program.{BLOCK_RESET, Program}
 use Rattle.regs.specs.Log.{Legal, Each, expected}
 
 -- every access that the call logs is one that the table of registers allows

@@ -1,8 +1,8 @@
 -- How entries stand in the log, and what a call is to leave.
-use Rattle.std.specs.Prelude.{ℕ, suc, ◌+◌, ◌*◌, ◌/◌, ◌%◌, List, [], ◌∷◌, ◌++◌, Bool, ◌||◌, ◌≡◌, eqb, T, length, drop}
+use Rattle.std.specs.Prelude.{ℕ, suc, ◌+◌, ◌*◌, ◌/◌, ◌%◌, List, [], ◌∷◌, ◌++◌, Bool, ◌||◌, ◌≡◌, eqb, T, length, drop, if◌then◌else◌}
 use Rattle.regs.specs.declared.access.Entry.{Entry}
 use Rattle.regs.specs.declared.access.Entry.TheVariants.{Read, Write, Marked}
-use Rattle.regs.specs.Program.{if◌then◌else◌, PENDING, BLOCK_RESET, Outcome, outcome, Program, behaviour}
+use Rattle.regs.specs.Program.{PENDING, BLOCK_RESET, Outcome, outcome, Program, behaviour}
 use Rattle.regs.specs.Registers.{legal_read, legal_write}
 use Rattle.regs.specs.declared.answers.Answer.{Answer}
 use Rattle.regs.specs.declared.answers.Reply.{Reply}

@@ -1,13 +1,8 @@
 -- The language in which the drivers are written down: programs with `do`, the Rust's loops, and what a program
 -- leaves on a list of readings.
-use Rattle.std.specs.Prelude.{ℕ, zero, suc, List, [], ◌∷◌, Bool, true, false, set}
+use Rattle.std.specs.Prelude.{ℕ, zero, suc, List, [], ◌∷◌, Bool, true, false, set, if◌then◌else◌}
 use Rattle.regs.specs.declared.access.Entry.{Entry}
 use Rattle.regs.specs.declared.access.Entry.TheVariants.{Read, Write, Marked}
-
-infixl 20 if◌then◌else◌
-abbrev pub if◌then◌else◌ : {A : Type 0} → Bool → A → A → A
-if◌then◌else◌ true a b = a
-if◌then◌else◌ false a b = b
 
 -- What a driver with a state S does up to its answer, an A. `stores`, `asks`
 -- and `keeps` are no accesses: they are done with the access before them.

@@ -2,7 +2,7 @@
 use Rattle.std.specs.Prelude.{ℕ, Bool, true, false, ◌||◌, ◌&&◌, List, [], ◌∷◌, map, eqb, get_or}
 
 pub data Direction : Type 0 where
-  read_only_lem read_write : Direction
+  read_only read_write : Direction
 
 pub record Register : Type 0 where
   pub offset : ℕ
@@ -21,24 +21,24 @@ registers =
     ∷ (0x1C is read_write)  -- FS_SCL_HCNT
     ∷ (0x20 is read_write)  -- FS_SCL_LCNT
     ∷ (0x30 is read_write)  -- INTR_MASK
-    ∷ (0x34 is read_only_lem)  -- RAW_INTR_STAT
+    ∷ (0x34 is read_only)  -- RAW_INTR_STAT
     ∷ (0x38 is read_write)  -- RX_TL
     ∷ (0x3C is read_write)  -- TX_TL
-    ∷ (0x40 is read_only_lem)  -- CLR_INTR
-    ∷ (0x50 is read_only_lem)  -- CLR_RD_REQ
-    ∷ (0x54 is read_only_lem)  -- CLR_TX_ABRT
-    ∷ (0x58 is read_only_lem)  -- CLR_RX_DONE
-    ∷ (0x60 is read_only_lem)  -- CLR_STOP_DET
-    ∷ (0x68 is read_only_lem)  -- CLR_GEN_CALL
+    ∷ (0x40 is read_only)  -- CLR_INTR
+    ∷ (0x50 is read_only)  -- CLR_RD_REQ
+    ∷ (0x54 is read_only)  -- CLR_TX_ABRT
+    ∷ (0x58 is read_only)  -- CLR_RX_DONE
+    ∷ (0x60 is read_only)  -- CLR_STOP_DET
+    ∷ (0x68 is read_only)  -- CLR_GEN_CALL
     ∷ (0x6C is read_write)  -- ENABLE
-    ∷ (0x70 is read_only_lem)  -- STATUS
-    ∷ (0x74 is read_only_lem)  -- TXFLR
-    ∷ (0x78 is read_only_lem)  -- RXFLR
+    ∷ (0x70 is read_only)  -- STATUS
+    ∷ (0x74 is read_only)  -- TXFLR
+    ∷ (0x78 is read_only)  -- RXFLR
     ∷ (0x7C is read_write)  -- SDA_HOLD
-    ∷ (0x80 is read_only_lem)  -- TX_ABRT_SOURCE
+    ∷ (0x80 is read_only)  -- TX_ABRT_SOURCE
     ∷ (0x98 is read_write)  -- ACK_GENERAL_CALL
     ∷ (0xA0 is read_write)  -- FS_SPKLEN
-    ∷ (0xA8 is read_only_lem)  -- CLR_RESTART_DET
+    ∷ (0xA8 is read_only)  -- CLR_RESTART_DET
     ∷ []
 
 abbrev pub offsets : List ℕ
@@ -124,17 +124,17 @@ abbrev pub CLR_RESTART_DET : ℕ
 CLR_RESTART_DET = row 24
 
 abbrev pub can_write : Direction → Bool
-can_write read_only_lem = false
+can_write read_only = false
 can_write read_write = true
 
 -- whether some register of the list passes the test
-abbrev pub Any : (Register → Bool) → List Register → Bool
-Any f [] = false
-Any f (r ∷ rs) = f r || Any f rs
+abbrev pub any : (Register → Bool) → List Register → Bool
+any f [] = false
+any f (r ∷ rs) = f r || any f rs
 
 -- a register is read where the table has it, and written where the table says that it can be
 abbrev pub legal_read : ℕ → Bool
-legal_read o = Any (λ r. eqb r.offset o) registers
+legal_read o = any (λ r. eqb r.offset o) registers
 
 abbrev pub legal_write : ℕ → Bool
-legal_write o = Any (λ r. eqb r.offset o && can_write r.direction) registers
+legal_write o = any (λ r. eqb r.offset o && can_write r.direction) registers

@@ -51,7 +51,7 @@ stepped M (suc room) s readings buffer =
     with_room (M.next s) (λ v readings'. stepped M room (M.advance s v) readings' (stored_in buffer (M.store s v)))
     readings buffer (M.state s)
 
--- over Any readings, with the room of Any log, from Any buffer and state, stepping from the start
+-- over any readings, with the room of any log, from any buffer and state, stepping from the start
 -- makes the accesses of p and leaves its answer, its buffer and its state
 abbrev pub SteppedAs : (M : Machine) → (M.K → M.S) → Program M.K Answer Answer → Type 0
 SteppedAs M start p = (log readings buffer : List ℕ) (me : M.K)

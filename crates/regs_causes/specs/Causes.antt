@@ -1,8 +1,7 @@
 -- The causes of an abort, bit by bit. TX_ABRT_SOURCE has a cause in each of its bits 0 to 16 (RP2040 datasheet, I2C
 -- chapter); bits 17 to 22 are reserved, and bits 23 to 31 count the words that were flushed.
-use Rattle.std.specs.Prelude.{ℕ, zero, suc, ◌+◌, eqb}
+use Rattle.std.specs.Prelude.{ℕ, zero, suc, ◌+◌, eqb, if◌then◌else◌}
 use Rattle.regs.specs.Fields.{b2n, bit}
-use Rattle.regs.specs.Program.{if◌then◌else◌}
 use Rattle.regs_causes.specs.declared.SetCauses.{SetCauses}
 use Rattle.regs_causes.specs.declared.SetCauses.TheVariants.{None, Set}
 

@@ -1,8 +1,7 @@
 -- The replay over its whole input: what the reads brought is fed to the reader in order, and the end of the input is
 -- told to it only where a read answered 0. No contract can say what is written; `text` is what was handed to be written.
-use Rattle.std.specs.Prelude.{ℕ, ◌-◌, ◌^◌, ◌≤◌, ◌<◌, Bool, true, false, List, [], ◌++◌, ◌≡◌, ltb, length, take}
+use Rattle.std.specs.Prelude.{ℕ, ◌-◌, ◌^◌, ◌≤◌, ◌<◌, Bool, true, false, List, [], ◌++◌, ◌≡◌, ltb, length, take, if◌then◌else◌}
 use Rattle.std.proofs.Math.Seq.{slice}
-use Rattle.regs.specs.Program.{if◌then◌else◌}
 use Rattle.text_stdin.specs.Reads.{is_ended_at, Brought, Reads}
 use Rattle.text_stdin.specs.declared.reads.End.{End}
 use Rattle.text_stdin.specs.declared.reads.End.TheVariants.{Open, Ended, Failed, OutOfTurns}

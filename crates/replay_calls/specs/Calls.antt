@@ -1,6 +1,6 @@
 -- A call of the replay: what it leaves, by its driver's definition, and what is printed of it.
-use Rattle.std.specs.Prelude.{ℕ, ◌+◌, ◌%◌, Bool, true, false, not, ◌&&◌, ◌||◌, List, [], ◌∷◌, ◌++◌, eqb, ltb, length, replicate}
-use Rattle.regs.specs.Program.{if◌then◌else◌, Program, Outcome, outcome, behaviour}
+use Rattle.std.specs.Prelude.{ℕ, ◌+◌, ◌%◌, Bool, true, false, not, ◌&&◌, ◌||◌, List, [], ◌∷◌, ◌++◌, eqb, ltb, length, replicate, if◌then◌else◌}
+use Rattle.regs.specs.Program.{Program, Outcome, outcome, behaviour}
 use Rattle.regs.specs.Answers.{number}
 use Rattle.regs.specs.declared.answers.Answer.{Answer}
 use Rattle.regs.specs.declared.answers.Reply.{Reply}
@@ -56,7 +56,7 @@ abbrev pub within_form : ℕ → ℕ → Bool → Transfer ℕ → Driver Answer
 within_form form address limits t =
     within limits (if ltb form 8 then transfer reason_of (mode_of form) address t else coded reason_of (mode_of form) address t)
 
--- bits 0 and 1 of a form: read, write, write_read, transaction
+-- bits 0 and 1 of a form: read, write, write-read, transaction
 abbrev pub transfer_of : ℕ → ℕ → Listed → Driver Answer
 transfer_of form address l =
     if eqb (form % 4) 0 then within_form form address (fits l.room) (read l.room)

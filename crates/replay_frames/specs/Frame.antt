@@ -1,6 +1,5 @@
 -- A line as a frame.
-use Rattle.std.specs.Prelude.{ℕ, true, false, List, [], ◌∷◌, eqb, ltb, length, drop}
-use Rattle.regs.specs.Program.{if◌then◌else◌}
+use Rattle.std.specs.Prelude.{ℕ, true, false, List, [], ◌∷◌, eqb, ltb, length, drop, if◌then◌else◌}
 use Rattle.master.specs.Operations.{Operation, writes}
 use Rattle.text_hex.specs.Text.{number_at, Bytes, these, none, bytes_of}
 use Rattle.text_hex.specs.declared.digits.Value.{Value}
@@ -8,9 +7,7 @@ use Rattle.text_hex.specs.declared.digits.Value.TheVariants.{Is, No}
 use Rattle.replay_calls.specs.declared.Call.{Call}
 use Rattle.replay_calls.specs.declared.Call.TheVariants.{Clock, Master, Reset, Listen, Respond, Fill, RespondAndFill}
 use Rattle.replay_frames.specs.declared.Line.{Line}
-use Rattle.replay_frames.specs.declared.Line.TheVariants as Line
 use Rattle.replay_frames.specs.declared.Head.{Head}
-use Rattle.replay_frames.specs.declared.Head.TheVariants as Head
 
 pub data Frame : Type 0 where
   opens : Call → List (Operation ℕ) → Frame  -- `01`, `02`, `03`: a call. The bytes of a response are an operation of it
@@ -18,7 +15,7 @@ pub data Frame : Type 0 where
   read : ℕ → Frame  -- `11`: a read operation
   reading : ℕ → Frame  -- `20`
   run : Frame  -- `FF`
-  bad : Frame  -- Any other line
+  bad : Frame  -- any other line
 
 -- ---- frames of a fixed length, by their numbers
 
@@ -83,7 +80,7 @@ plain_of line = of_kind line (number_at line 0 2)
 abbrev pub LONGEST : ℕ
 LONGEST = 18
 
--- ---- frames that end in Any number of bytes: `10`, `0302`, and `0304` with its fill byte stand before them
+-- ---- frames that end in any number of bytes: `10`, `0302`, and `0304` with its fill byte stand before them
 
 abbrev pub fill_head : Value → Head
 fill_head (Is b) = Head.Bytes (Line.RespondAndFill b)
@@ -112,7 +109,7 @@ bytes_frame Line.Write (these bs) = write bs
 bytes_frame Line.Respond (these bs) = opens Respond (writes bs ∷ [])
 bytes_frame (Line.RespondAndFill b) (these bs) = opens (RespondAndFill b) (writes bs ∷ [])
 
--- ---- Any line
+-- ---- any line
 
 abbrev pub by_head : List ℕ → Head → Frame
 by_head line Head.Plain = plain_of line

@@ -1,6 +1,5 @@
 -- Frames in order: what the replay prints of an input. This is the statement.
-use Rattle.std.specs.Prelude.{ℕ, ◌+◌, ◌%◌, Bool, true, false, List, [], ◌∷◌, ◌++◌, eqb, ltb, length}
-use Rattle.regs.specs.Program.{if◌then◌else◌}
+use Rattle.std.specs.Prelude.{ℕ, ◌+◌, ◌%◌, Bool, true, false, List, [], ◌∷◌, ◌++◌, eqb, ltb, length, if◌then◌else◌}
 use Rattle.master.specs.Operations.{Operation, writes, reads}
 use Rattle.slave.specs.declared.Pending.TheVariants.{None}
 use Rattle.slave.specs.declared.SlaveState.{SlaveState}
@@ -17,7 +16,7 @@ use Rattle.replay_session.specs.declared.Took.TheVariants.{Now, Never}
 
 -- ---- which operations come when
 
--- by the kind, bits 0 and 1 of a form: 0 takes one `11`, 1 one `10`, 2 a `10` then an `11`, 3 Any; no other call takes one
+-- by the kind, bits 0 and 1 of a form: 0 takes one `11`, 1 one `10`, 2 a `10` then an `11`, 3 any; no other call takes one
 abbrev pub wants_by : ℕ → Wants
 wants_by form = if eqb (form % 4) 0 then Read else (if eqb (form % 4) 1 then Write else (if eqb (form % 4) 2 then Both else Any))
 

@@ -1,9 +1,9 @@
 -- What holds of every slave call, over the log, the buffer and the state that it leaves: lengths and counts are true.
-use Rattle.std.specs.Prelude.{ℕ, ◌<◌, List, [], ◌∷◌, ◌++◌, ◌≡◌, Bool, true, false, ◌||◌, ◌⊎◌, ◌≢◌, eqb, length, take, drop, replicate}
+use Rattle.std.specs.Prelude.{ℕ, ◌<◌, List, [], ◌∷◌, ◌++◌, ◌≡◌, Bool, true, false, ◌||◌, ◌⊎◌, ◌≢◌, eqb, length, take, drop, replicate, if◌then◌else◌}
 use Rattle.regs.specs.Registers.{DATA_CMD, TX_ABRT_SOURCE, CLR_RX_DONE, CLR_INTR}
 use Rattle.regs.specs.Fields.{tx_flush_cnt}
 use Rattle.regs.specs.Left.{Stored}
-use Rattle.regs.specs.Program.{if◌then◌else◌, Outcome}
+use Rattle.regs.specs.Program.{Outcome}
 use Rattle.regs.specs.Log.{expected}
 use Rattle.regs.specs.declared.access.Entry.{Entry}
 use Rattle.regs.specs.declared.access.Entry.TheVariants as E
@@ -28,7 +28,7 @@ abbrev pub pending_bytes : Pending → List ℕ
 pending_bytes None = []
 pending_bytes (Byte b) = b ∷ []
 
--- the byte that the driver keeps, if Any
+-- the byte that the driver keeps, if any
 abbrev pub kept : SlaveState → List ℕ
 kept me = pending_bytes me.pending_byte
 

@@ -1,5 +1,5 @@
 -- src/i2c_slave.rs, function by function, and the calls with the refusals that are added (docs/MANUAL.md, "The numbers").
-use Rattle.std.specs.Prelude.{ℕ, zero, suc, ◌+◌, ◌-◌, List, [], ◌∷◌, Bool, true, false, not, ◌&&◌, ◌||◌, eqb, ltb, length, take, drop, replicate}
+use Rattle.std.specs.Prelude.{ℕ, zero, suc, ◌+◌, ◌-◌, List, [], ◌∷◌, Bool, true, false, not, ◌&&◌, ◌||◌, eqb, ltb, length, take, drop, replicate, if◌then◌else◌}
 use Rattle.regs.specs.Registers.{CON, SAR, DATA_CMD, INTR_MASK, RAW_INTR_STAT, RX_TL, TX_TL, CLR_INTR, CLR_RD_REQ}
 use Rattle.regs.specs.Registers.{CLR_TX_ABRT, CLR_RX_DONE, CLR_STOP_DET, CLR_GEN_CALL, ENABLE, STATUS, RXFLR}
 use Rattle.regs.specs.Registers.{TX_ABRT_SOURCE, ACK_GENERAL_CALL, CLR_RESTART_DET}
@@ -7,7 +7,7 @@ use Rattle.regs.specs.Fields.{b2n, dat, first_data_byte, tx_empty, rd_req, tx_ab
 use Rattle.regs.specs.Fields.{restart_det, set_m_rx_full, set_m_tx_empty, set_m_rd_req, set_m_tx_abrt}
 use Rattle.regs.specs.Fields.{set_m_rx_done, set_m_stop_det, set_m_gen_call, set_m_restart_det, rfne, level}
 use Rattle.regs.specs.Fields.{no_acknowledge, arb_lost, tx_flush_cnt, address_field, con_slave}
-use Rattle.regs.specs.Program.{if◌then◌else◌, Program, ◌>>=◌, ◌>>◌, return, exit, get, put, modify, mark}
+use Rattle.regs.specs.Program.{Program, ◌>>=◌, ◌>>◌, return, exit, get, put, modify, mark}
 use Rattle.regs.specs.Program.{BLOCK_RESET, store, ask, keep, skip, when, Result, ok, err, Poll, pending, ready}
 use Rattle.regs.specs.Program.{wait_on, Turn, again, done, loop}
 use Rattle.regs.specs.declared.answers.AbortReason.{AbortReason}

@@ -15,13 +15,13 @@ start (responds bytes) me = start_respond me Respond (length bytes)
 start (fills fill) me = start_fill me fill
 start (responds_and_fills bytes fill) me = start_respond me (RespondThenFill fill) (length bytes)
 
--- what `next_access` is lent: the bytes to respond with; Any bytes where a call sends none
+-- what `next_access` is lent: the bytes to respond with; any bytes where a call sends none
 abbrev pub lent : Call → List ℕ → List ℕ
-lent (resets address general_call) Any = Any
-lent (listens buffer) Any = Any
-lent (responds bytes) Any = bytes
-lent (fills fill) Any = Any
-lent (responds_and_fills bytes fill) Any = bytes
+lent (resets address general_call) any = any
+lent (listens buffer) any = any
+lent (responds bytes) any = bytes
+lent (fills fill) any = any
+lent (responds_and_fills bytes fill) any = bytes
 
 -- the functions of the contracts of `next_access` and `advance`, which also says what is stored
 abbrev pub steps_of : List ℕ → Machine
@@ -35,4 +35,4 @@ steps_of bytes = record {
 }
 
 abbrev pub SteppedCalls : Type 0
-SteppedCalls = (c : Call) (Any : List ℕ) → SteppedAs (steps_of (lent c Any)) (start c) (program c)
+SteppedCalls = (c : Call) (any : List ℕ) → SteppedAs (steps_of (lent c any)) (start c) (program c)

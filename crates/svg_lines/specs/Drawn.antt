@@ -1,7 +1,6 @@
 -- What bus_svg writes of an input, line by line: the picture of the first call that put anything on the bus, and before it
 -- the numbers of the lines that are no answer frames. This is the statement.
-use Rattle.std.specs.Prelude.{ℕ, List, [], ◌∷◌, ◌++◌, length, take}
-use Rattle.regs.specs.Program.{if◌then◌else◌}
+use Rattle.std.specs.Prelude.{ℕ, List, [], ◌∷◌, ◌++◌, length, take, if◌then◌else◌}
 use Rattle.regs.specs.Log.{decode}
 use Rattle.bus.specs.Bus.{Sign, bus_sequence}
 use Rattle.text_hex.specs.Text.{lines}

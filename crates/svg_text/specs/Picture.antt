@@ -1,6 +1,5 @@
 -- The picture of a bus sequence: SVG of a fixed width, a row of lanes below the other, and in each row the signs from left to right.
-use Rattle.std.specs.Prelude.{ℕ, ◌+◌, ◌/◌, ◌%◌, List, [], ◌∷◌, ◌++◌, eqb, ltb, length, take}
-use Rattle.regs.specs.Program.{if◌then◌else◌}
+use Rattle.std.specs.Prelude.{ℕ, ◌+◌, ◌/◌, ◌%◌, List, [], ◌∷◌, ◌++◌, eqb, ltb, length, take, if◌then◌else◌}
 use Rattle.regs.specs.Log.{decode}
 use Rattle.bus.specs.Bus.{Sign, START, RESTART, STOP, address_byte, written, read_slot, bus_sequence}
 use Rattle.text_hex.specs.Text.{hex2}
@@ -92,7 +91,7 @@ unfoldable pub opening_text : ℕ → List ℕ
 opening_text height = ascii "<svg xmlns=\"http://www.w3.org/2000/svg\" width=\"840\" height=\""
     ++ (number_text height ++ (ascii "\" viewBox=\"0 0 840 "
     ++ (number_text height ++ ascii
-    "\" font_family=\"monospace\" font_size=\"14\" text_anchor=\"middle\">\n<title>I2C bus sequence</title>\n")))
+    "\" font-family=\"monospace\" font-size=\"14\" text-anchor=\"middle\">\n<title>I2C bus sequence</title>\n")))
 
 unfoldable pub head_text : ℕ → List ℕ
 head_text height = opening_text height ++ (style_text ++ (conditions_text ++ (bytes_text ++ legend_text)))

@@ -6,7 +6,7 @@ use Rattle.text_tables.specs.Ascii.{ascii}
 unfoldable pub style_text : List ℕ
 style_text =
     ascii "<style>\n" ++ (
-    ascii "path{fill:none;stroke:#1f2937;stroke_width:1.5}\n" ++ (
+    ascii "path{fill:none;stroke:#1f2937;stroke-width:1.5}\n" ++ (
     ascii "rect{stroke:#1f2937}\n" ++ (
     ascii ".a{fill:#bfdbfe}\n" ++ (
     ascii ".w{fill:#bbf7d0}\n" ++ (
@@ -15,7 +15,7 @@ style_text =
     ascii ".h{fill:url(#h);stroke:#9ca3af}\n" ++ (
     ascii ".g{stroke:#9ca3af}\n" ++ (
     ascii ".p{fill:#fff;stroke:none}\n" ++ (
-    ascii ".n{text_anchor:start}\n" ++ (
+    ascii ".n{text-anchor:start}\n" ++ (
     ascii "</style>\n")))))))))))
 
 -- the names of the lanes (l), and START (S), RESTART (R) and STOP (P), 24 wide: SDA falls or rises while SCL is high
@@ -40,7 +40,7 @@ bytes_text =
 unfoldable pub legend_text : List ℕ
 legend_text =
     ascii "<rect class=\"p\" width=\"840\" height=\"100%\"/>\n" ++ (
-    ascii "<g class=\"n\"><text x=\"16\" y=\"26\" font_size=\"18\">I2C bus sequence</text>\n" ++ (
+    ascii "<g class=\"n\"><text x=\"16\" y=\"26\" font-size=\"18\">I2C bus sequence</text>\n" ++ (
     ascii "<rect class=\"c\" x=\"16\" y=\"40\" width=\"14\" height=\"14\"/><text x=\"36\" y=\"52\">S START, Sr RESTART, P STOP</text>\n" ++ (
     ascii "<rect class=\"a\" x=\"290\" y=\"40\" width=\"14\" height=\"14\"/><text x=\"310\" y=\"52\">address</text>\n" ++ (
     ascii "<rect class=\"w\" x=\"400\" y=\"40\" width=\"14\" height=\"14\"/><text x=\"420\" y=\"52\">written</text>\n" ++ (

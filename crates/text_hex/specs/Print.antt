@@ -1,6 +1,6 @@
 -- Answer frames: the entries of a log, a buffer, and the reply.
-use Rattle.std.specs.Prelude.{ℕ, List, [], ◌∷◌, ◌++◌, eqb}
-use Rattle.regs.specs.Program.{if◌then◌else◌, PENDING}
+use Rattle.std.specs.Prelude.{ℕ, List, [], ◌∷◌, ◌++◌, eqb, if◌then◌else◌}
+use Rattle.regs.specs.Program.{PENDING}
 use Rattle.regs.specs.Answers.{number, detail}
 use Rattle.regs.specs.declared.access.Entry.{Entry}
 use Rattle.regs.specs.declared.access.Entry.TheVariants.{Read, Write, Marked}

@@ -1,6 +1,5 @@
 -- Lines, digits and numbers: how the bytes of the input are read, and how numbers are written.
-use Rattle.std.specs.Prelude.{ℕ, zero, suc, ◌+◌, ◌*◌, ◌-◌, ◌/◌, ◌%◌, ◌^◌, List, [], ◌∷◌, ◌++◌, eqb, ltb, get_or}
-use Rattle.regs.specs.Program.{if◌then◌else◌}
+use Rattle.std.specs.Prelude.{ℕ, zero, suc, ◌+◌, ◌*◌, ◌-◌, ◌/◌, ◌%◌, ◌^◌, List, [], ◌∷◌, ◌++◌, eqb, ltb, get_or, if◌then◌else◌}
 use Rattle.text_hex.specs.declared.digits.Value.{Value}
 use Rattle.text_hex.specs.declared.digits.Value.TheVariants.{Is, No}
 

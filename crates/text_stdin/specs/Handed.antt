@@ -1,8 +1,7 @@
 -- A line of the input: the bytes up to the first LF, and what is left
 -- behind it. What is handed out of a chunk, and of what was read behind it.
-use Rattle.std.specs.Prelude.{ℕ, ◌+◌, ◌-◌, ◌^◌, ◌≤◌, Bool, true, false, not, ◌&&◌, ◌||◌, List, [], ◌∷◌, ◌++◌, ◌≡◌, eqb, ltb, length, take}
+use Rattle.std.specs.Prelude.{ℕ, ◌+◌, ◌-◌, ◌^◌, ◌≤◌, Bool, true, false, ◌&&◌, ◌||◌, List, [], ◌∷◌, ◌++◌, ◌≡◌, eqb, ltb, length, take, if◌then◌else◌}
 use Rattle.std.proofs.Math.Seq.{slice}
-use Rattle.regs.specs.Program.{if◌then◌else◌}
 use Rattle.text_hex.specs.Text.{LF, last_line}
 use Rattle.text_stdin.specs.declared.Source.{Source}
 use Rattle.text_stdin.specs.declared.Part.{Part}
@@ -62,7 +61,7 @@ stands false Ended = Ended
 stands false Failed = Failed
 stands false OutOfTurns = OutOfTurns
 
--- there is a line where LF ended it, or the input did and the line has Any bytes
+-- there is a line where LF ended it, or the input did and the line has any bytes
 abbrev pub is_line : Bool → End → ℕ → Bool
 is_line ended e held = ended || (is_ended_at e && ltb 0 held)
 

@@ -1,6 +1,5 @@
 -- A number in decimal digits (`0` is 48), without zeros in front.
-use Rattle.std.specs.Prelude.{ℕ, zero, suc, ◌+◌, ◌/◌, ◌%◌, List, [], ◌∷◌, ◌++◌, ltb}
-use Rattle.regs.specs.Program.{if◌then◌else◌}
+use Rattle.std.specs.Prelude.{ℕ, zero, suc, ◌+◌, ◌/◌, ◌%◌, List, [], ◌∷◌, ◌++◌, ltb, if◌then◌else◌}
 
 -- its last k digits at most: those of its tenth, then the one that is left over
 unfoldable pub digits : ℕ → ℕ → List ℕ

@@ -1,6 +1,5 @@
 -- The text of a row of a table, of flags by their names, and of digits by pairs.
-use Rattle.std.specs.Prelude.{ℕ, zero, suc, ◌+◌, ◌*◌, ◌/◌, ◌%◌, Bool, List, [], ◌∷◌, ◌++◌, eqb, take, drop}
-use Rattle.regs.specs.Program.{if◌then◌else◌}
+use Rattle.std.specs.Prelude.{ℕ, zero, suc, ◌+◌, ◌*◌, ◌/◌, ◌%◌, Bool, List, [], ◌∷◌, ◌++◌, eqb, take, drop, if◌then◌else◌}
 
 -- what stands before the first dot (46)
 unfoldable pub until_dot : List ℕ → List ℕ

@@ -1,6 +1,5 @@
--- The text of a sequence that stands in a buffer of words, as bus's `sign_word_lem` makes them. Only contracts of inner functions cite this.
-use Rattle.std.specs.Prelude.{ℕ, ◌+◌, ◌/◌, ◌%◌, List, [], ◌∷◌, ◌++◌, eqb, length}
-use Rattle.regs.specs.Program.{if◌then◌else◌}
+-- The text of a sequence that stands in a buffer of words, as bus's `sign_word` makes them. Only contracts of inner functions cite this.
+use Rattle.std.specs.Prelude.{ℕ, ◌+◌, ◌/◌, ◌%◌, List, [], ◌∷◌, ◌++◌, eqb, length, if◌then◌else◌}
 use Rattle.text_hex.specs.Text.{LF}
 use Rattle.explain_bus.specs.Line.{name_text, address_text, byte_text, run_text}
 

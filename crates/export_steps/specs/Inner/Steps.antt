@@ -1,7 +1,6 @@
 -- What the exported steps do with what a caller holds. The contracts cite `Starts`, `Tells`, `Moves` and `Stores`, and so does
 -- the caller's loop (`Loop.antt`), of which it is proved what it leaves: nothing here needs to be believed.
-use Rattle.std.specs.Prelude.{ℕ, ◌%◌, Bool, true, false, not, List, ◌≡◌, eqb, ltb}
-use Rattle.regs.specs.Program.{if◌then◌else◌}
+use Rattle.std.specs.Prelude.{ℕ, ◌%◌, Bool, true, false, not, List, ◌≡◌, eqb, ltb, if◌then◌else◌}
 use Rattle.regs.specs.Answers.{number, detail}
 use Rattle.regs.specs.Steps.{stored_in}
 use Rattle.regs.specs.Inner.Summed.{sum_after}

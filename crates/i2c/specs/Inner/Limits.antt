@@ -1,6 +1,5 @@
 -- The limits as the code tests them.
-use Rattle.std.specs.Prelude.{ℕ, ◌+◌, ◌*◌, ◌≤◌, Bool, false, ◌&&◌, List, [], ◌∷◌, eqb}
-use Rattle.regs.specs.Program.{if◌then◌else◌}
+use Rattle.std.specs.Prelude.{ℕ, ◌+◌, ◌*◌, ◌≤◌, Bool, false, ◌&&◌, List, [], ◌∷◌, eqb, if◌then◌else◌}
 use Rattle.regs.specs.declared.access.Ran.{Ran}
 use Rattle.regs.specs.declared.answers.Answer.TheVariants.{Refused}
 use Rattle.regs.specs.declared.answers.Refusal.TheVariants.{OverLimits}

@@ -1,7 +1,6 @@
 -- The message of a transfer operation by operation, as code goes through it; that it is the message of the bus
--- sequence is `message-is` (proofs/MessageFrom.antt).
-use Rattle.std.specs.Prelude.{ℕ, ◌+◌, ◌*◌, List, [], ◌∷◌, ◌++◌, eqb, take, drop}
-use Rattle.regs.specs.Program.{if◌then◌else◌}
+-- sequence is `message_is` (proofs/MessageFrom.antt).
+use Rattle.std.specs.Prelude.{ℕ, ◌+◌, ◌*◌, List, [], ◌∷◌, ◌++◌, eqb, take, drop, if◌then◌else◌}
 use Rattle.master.specs.Operations.{Operation, writes, reads, READ, WRITE}
 
 -- no operation has this kind: before the first one

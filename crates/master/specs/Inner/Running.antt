@@ -1,13 +1,12 @@
 -- The code of a coded transfer while it runs, access by access: a CRC-8 over the data bytes of the log, with an address
 -- byte where the direction turns. That a transfer watched so leaves what a coded one does is `runs` (proofs/Running.antt).
-use Rattle.std.specs.Prelude.{ℕ, ◌+◌, ◌*◌, true, false, not, ◌&&◌, List, [], ◌∷◌, ◌≡◌, eqb, length}
+use Rattle.std.specs.Prelude.{ℕ, ◌+◌, ◌*◌, true, false, not, ◌&&◌, List, [], ◌∷◌, ◌≡◌, eqb, length, if◌then◌else◌}
 use Rattle.crc8.specs.Crc8.{after_byte}
 use Rattle.regs.specs.declared.access.Entry.{Entry}
 use Rattle.regs.specs.declared.access.Entry.TheVariants.{Read, Write, Marked}
 use Rattle.regs.specs.Registers.{DATA_CMD}
 use Rattle.regs.specs.Fields.{command_word, cmd, stop, dat}
 use Rattle.regs.specs.Log.{Each, expected}
-use Rattle.regs.specs.Program.{if◌then◌else◌}
 use Rattle.regs.specs.Watched.{Watcher, watched}
 use Rattle.regs.specs.Inner.Summed.{Summer}
 use Rattle.master.specs.Driver.{reason_of}

@@ -1,13 +1,13 @@
 -- A coded transfer after its run: the longer operations are run with 0 for the code, and by the last access to DATA_CMD
 -- the code is then put into the log or tested. That this is what a coded transfer leaves is `settles` (proofs/Settles.antt).
-use Rattle.std.specs.Prelude.{ℕ, true, false, not, ◌&&◌, List, [], ◌∷◌, ◌≡◌, eqb, length}
+use Rattle.std.specs.Prelude.{ℕ, true, false, not, ◌&&◌, List, [], ◌∷◌, ◌≡◌, eqb, length, if◌then◌else◌}
 use Rattle.regs.specs.declared.access.Entry.{Entry}
 use Rattle.regs.specs.declared.access.Entry.TheVariants.{Read, Write, Marked}
 use Rattle.regs.specs.declared.answers.Reply.{Reply}
 use Rattle.regs.specs.Registers.{DATA_CMD}
 use Rattle.regs.specs.Fields.{command_word, cmd, stop, dat}
 use Rattle.regs.specs.Log.{Each, expected}
-use Rattle.regs.specs.Program.{if◌then◌else◌, Outcome}
+use Rattle.regs.specs.Program.{Outcome}
 use Rattle.master.specs.Driver.{reason_of}
 use Rattle.master.specs.Operations.{Operation, Mode, Transfer, operations_of}
 use Rattle.master.specs.Coded.{code_of, with_code, room_of, longer_transfer, restarts}

@@ -1,7 +1,6 @@
--- The run of a machine of one access a step (`Machine` in specs/Steps.antt), over Any machine. Only contracts
+-- The run of a machine of one access a step (`Machine` in specs/Steps.antt), over any machine. Only contracts
 -- of inner functions cite this: no public call rests on believing it.
-use Rattle.std.specs.Prelude.{ℕ, zero, suc, ◌+◌, ◌*◌, List, ltb, length, get_or, set}
-use Rattle.regs.specs.Program.{if◌then◌else◌}
+use Rattle.std.specs.Prelude.{ℕ, zero, suc, ◌+◌, ◌*◌, List, ltb, length, get_or, set, if◌then◌else◌}
 use Rattle.regs.specs.Steps.{Machine, stored_in}
 use Rattle.regs.specs.declared.answers.Reply.{Reply}
 use Rattle.regs.specs.declared.answers.Reply.TheVariants.{Answered, LogFull, OutOfReadings}
@@ -29,7 +28,7 @@ taken rs used (Write r v) = Did 0 used
 taken rs used (Mark x) = Did 0 used
 taken rs used (Finished a) = Stopped (Answered a)
 
--- with no room left in the log nothing is done Any more: a full log is told before a reading that is missing
+-- with no room left in the log nothing is done any more: a full log is told before a reading that is missing
 abbrev pub at_full : Next → Reply
 at_full (Read r) = LogFull
 at_full (Write r v) = LogFull

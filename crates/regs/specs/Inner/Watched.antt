@@ -1,6 +1,5 @@
 -- A machine that is watched, as a program is (specs/Watched.antt). Its points have the log so far.
-use Rattle.std.specs.Prelude.{ℕ, List, [], ◌∷◌, ◌++◌}
-use Rattle.regs.specs.Program.{if◌then◌else◌}
+use Rattle.std.specs.Prelude.{ℕ, List, [], ◌∷◌, ◌++◌, if◌then◌else◌}
 use Rattle.regs.specs.Steps.{Machine}
 use Rattle.regs.specs.Watched.{Watcher}
 use Rattle.regs.specs.declared.access.Entry.{Entry}

@@ -33,6 +33,6 @@ Transferred form address l readings before at after end =
 abbrev pub listened : ℕ → List ℕ → SlaveState → Outcome SlaveState Reply
 listened n readings s = replayed (listen_call n) readings (replicate n 0) s
 
--- Any call
+-- any call
 abbrev pub RanAs : Call → Listed → List ℕ → SlaveState → List ℕ → ℕ → List ℕ → Done → Type 0
 RanAs c l readings s before at after r = Runs (has_buffer c l) (outcome_of c l readings s) before at after r

@@ -2,7 +2,6 @@
 use Rattle.std.specs.Prelude.{[]}
 use Rattle.replay_frames.specs.Frame.{Frame, opens, read, reading, run, bad}
 use Rattle.replay_frames.specs.declared.Short.{Short}
-use Rattle.replay_frames.specs.declared.Short.TheVariants as Short
 
 abbrev pub as_frame : Short → Frame
 as_frame (Short.Opens c) = opens c []

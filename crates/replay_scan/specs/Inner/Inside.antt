@@ -2,7 +2,7 @@
 use Rattle.std.specs.Prelude.{ℕ, ◌+◌, ◌≤◌, List, ◌≡◌}
 use Rattle.replay_calls.specs.Inner.Runs.{MOST_TEXT}
 use Rattle.replay_session.specs.Inner.Enter.{Arrays}
-use Rattle.replay_state.specs.Inner.Rest.{Whole, Sound, Went}
+use Rattle.replay_state.specs.Inner.Rest.{Sound, Went}
 use Rattle.replay_state.specs.declared.State.{State}
 
 -- no LF

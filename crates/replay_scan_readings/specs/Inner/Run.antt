@@ -1,6 +1,5 @@
 -- Lines of readings one after the other: what is still printed behind them. Contracts of inner functions cite this.
-use Rattle.std.specs.Prelude.{ℕ, ◌+◌, ◌*◌, ◌≤◌, ◌<◌, List, [], ◌++◌, Bool, true, false, ◌&&◌, ◌≡◌, ltb, eqb, length, take, drop, get_or}
-use Rattle.regs.specs.Program.{if◌then◌else◌}
+use Rattle.std.specs.Prelude.{ℕ, ◌+◌, ◌*◌, ◌≤◌, ◌<◌, List, [], ◌++◌, Bool, true, false, ◌&&◌, ◌≡◌, ltb, eqb, length, take, drop, get_or, if◌then◌else◌}
 use Rattle.slave.specs.declared.SlaveState.{SlaveState}
 use Rattle.text_hex.specs.Text.{digit_of, number_at}
 use Rattle.text_hex.specs.declared.digits.Value.{Value}

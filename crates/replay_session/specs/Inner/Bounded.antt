@@ -1,7 +1,6 @@
 -- The session in bounded space: operations beyond the limits of number 20 are not kept, and their call is not run but
 -- refused. That it prints the same, since the call's driver refuses them too, is proved (proofs/Bound.antt); contracts cite it.
-use Rattle.std.specs.Prelude.{ℕ, ◌+◌, Bool, true, false, ◌||◌, List, [], ◌∷◌, ◌++◌, ltb, length}
-use Rattle.regs.specs.Program.{if◌then◌else◌}
+use Rattle.std.specs.Prelude.{ℕ, ◌+◌, Bool, true, false, ◌||◌, List, [], ◌∷◌, ◌++◌, ltb, length, if◌then◌else◌}
 use Rattle.master.specs.Operations.{Operation, writes, reads, READ, WRITE, MOST_BYTES, MOST_OPERATIONS}
 use Rattle.slave.specs.declared.SlaveState.{SlaveState}
 use Rattle.text_hex.specs.Print.{answer_text}

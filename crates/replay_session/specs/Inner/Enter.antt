@@ -1,6 +1,5 @@
 -- How the code's values stand for frames and sessions, and what entering a frame does. Contracts of inner functions cite this.
-use Rattle.std.specs.Prelude.{ℕ, ◌+◌, ◌≤◌, Bool, true, false, ◌||◌, List, [], ◌≡◌, ltb, length, take}
-use Rattle.regs.specs.Program.{if◌then◌else◌}
+use Rattle.std.specs.Prelude.{ℕ, ◌+◌, ◌≤◌, Bool, true, false, ◌||◌, List, [], ◌≡◌, ltb, length, take, if◌then◌else◌}
 use Rattle.slave.specs.declared.SlaveState.{SlaveState}
 use Rattle.text_hex.specs.Appended.{Appended}
 use Rattle.replay_calls.specs.Calls.{MOST_READINGS, listed}
@@ -17,13 +16,11 @@ use Rattle.replay_session.specs.declared.Wants.TheVariants.{Nothing}
 use Rattle.replay_session.specs.declared.Took.{Took}
 use Rattle.replay_session.specs.declared.Took.TheVariants.{Now, Never}
 use Rattle.replay_session.specs.declared.Taken.{Taken}
-use Rattle.replay_session.specs.declared.Taken.TheVariants as Taken
 use Rattle.replay_session.specs.declared.Counts.{Counts}
 use Rattle.replay_session.specs.declared.Open.{Open}
 use Rattle.replay_session.specs.declared.Entered.{Entered}
 use Rattle.replay_session.specs.declared.Entered.TheVariants.{Going, Malformed}
 use Rattle.replay_frames.specs.declared.Line.{Line}
-use Rattle.replay_frames.specs.declared.Line.TheVariants as Line
 
 -- ---- the session that the open call and the lent slices are
 

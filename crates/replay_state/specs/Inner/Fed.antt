@@ -1,4 +1,4 @@
--- What is fed and finished. The contracts of `feed` and `finish` cite this; `every-split` is over them.
+-- What is fed and finished. The contracts of `feed` and `finish` cite this; `every_split` is over them.
 use Rattle.std.specs.Prelude.{ℕ, ◌≤◌, ◌<◌, List, [], ◌++◌, ◌≡◌, length, take, drop}
 use Rattle.replay_session.specs.Session.{fresh}
 use Rattle.replay_session.specs.Inner.Enter.{no_call}

@@ -1,7 +1,6 @@
 -- What is still printed from a state of the reader on. Contracts cite this; that from
--- the start it is what Session says, `every-split` shows (proofs/EverySplit.antt).
-use Rattle.std.specs.Prelude.{ℕ, ◌+◌, ◌≤◌, ◌<◌, List, [], ◌∷◌, ◌++◌, Bool, true, false, ◌&&◌, ◌≡◌, ltb, length, take, drop}
-use Rattle.regs.specs.Program.{if◌then◌else◌}
+-- the start it is what Session says, `every_split` shows (proofs/EverySplit.antt).
+use Rattle.std.specs.Prelude.{ℕ, ◌+◌, ◌≤◌, ◌<◌, List, [], ◌∷◌, ◌++◌, Bool, true, false, ◌&&◌, ◌≡◌, ltb, length, take, drop, if◌then◌else◌}
 use Rattle.text_hex.specs.Text.{lines_after, digit_of}
 use Rattle.text_hex.specs.Pairs.{all_digits}
 use Rattle.text_hex.specs.Appended.{Appended}

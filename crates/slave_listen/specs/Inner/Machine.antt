@@ -1,7 +1,7 @@
 -- The machine of `listen`, with a buffer of `length` places: at each point the access
 -- that is next, and where it leads. Only contracts of inner functions cite this.
-use Rattle.std.specs.Prelude.{ℕ, ◌+◌, Bool, not, ◌&&◌, eqb, ltb}
-use Rattle.regs.specs.Program.{if◌then◌else◌, PENDING}
+use Rattle.std.specs.Prelude.{ℕ, ◌+◌, Bool, not, ◌&&◌, eqb, ltb, if◌then◌else◌}
+use Rattle.regs.specs.Program.{PENDING}
 use Rattle.regs.specs.Registers.{DATA_CMD, INTR_MASK, RAW_INTR_STAT, RX_TL, CLR_STOP_DET, CLR_GEN_CALL, STATUS, RXFLR, CLR_RESTART_DET}
 use Rattle.regs.specs.Fields.{dat, first_data_byte, rd_req, stop_det, gen_call, restart_det, rfne, level}
 use Rattle.regs.specs.Steps.{Machine}

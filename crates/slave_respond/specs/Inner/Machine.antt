@@ -1,6 +1,6 @@
 -- The machine of a response: at each point the access that is next, and where it leads. Only contracts of inner functions cite this.
-use Rattle.std.specs.Prelude.{ℕ, ◌+◌, ◌-◌, List, ◌&&◌, eqb, ltb, get_or}
-use Rattle.regs.specs.Program.{if◌then◌else◌, PENDING}
+use Rattle.std.specs.Prelude.{ℕ, ◌+◌, ◌-◌, List, ◌&&◌, eqb, ltb, get_or, if◌then◌else◌}
+use Rattle.regs.specs.Program.{PENDING}
 use Rattle.regs.specs.Registers.{DATA_CMD, INTR_MASK, RAW_INTR_STAT, CLR_INTR, CLR_RD_REQ, CLR_TX_ABRT, CLR_RX_DONE, TX_ABRT_SOURCE}
 use Rattle.regs.specs.Fields.{tx_empty, rd_req, tx_abrt, rx_done}
 use Rattle.regs.specs.Steps.{Machine}

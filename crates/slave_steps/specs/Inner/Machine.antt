@@ -1,7 +1,7 @@
 -- The slave as a machine of one access a step: the points of `reset`, those of the two machines below, and the
 -- start of each call. Only contracts of inner functions cite this.
-use Rattle.std.specs.Prelude.{ℕ, List, Bool, eqb, ltb}
-use Rattle.regs.specs.Program.{if◌then◌else◌, BLOCK_RESET}
+use Rattle.std.specs.Prelude.{ℕ, List, Bool, eqb, ltb, if◌then◌else◌}
+use Rattle.regs.specs.Program.{BLOCK_RESET}
 use Rattle.regs.specs.Registers.{CON, SAR, INTR_MASK, RX_TL, TX_TL, CLR_INTR, ENABLE, ACK_GENERAL_CALL}
 use Rattle.regs.specs.Fields.{b2n, address_field, con_slave}
 use Rattle.regs.specs.Steps.{Machine}

@@ -1,6 +1,5 @@
 -- What a call of `draw_line` leaves and writes. Only contracts cite this.
-use Rattle.std.specs.Prelude.{ℕ, ◌≤◌, Bool, true, false, List, [], ◌≡◌, eqb, length, take}
-use Rattle.regs.specs.Program.{if◌then◌else◌}
+use Rattle.std.specs.Prelude.{ℕ, ◌≤◌, Bool, true, false, List, [], ◌≡◌, eqb, length, take, if◌then◌else◌}
 use Rattle.regs.specs.Log.{decode}
 use Rattle.bus.specs.Bus.{Sign, bus_sequence}
 use Rattle.svg_text.specs.Picture.{svg_text}
@@ -44,7 +43,7 @@ abbrev pub turn_by : Bool → List ℕ → List ℕ → Turn
 turn_by true log text = draws text
 turn_by false log text = goes log text
 
--- a line before the picture is the line's turn; behind the picture nothing is written Any more
+-- a line before the picture is the line's turn; behind the picture nothing is written any more
 pub record SaidAs (o : Kept) (log line log' out : List ℕ) (r : Said) : Type 0 where
   pub lines : r.kept.lines ≡ number_after o.lines
   pub before : o.done ≡ false

@@ -1,6 +1,5 @@
--- The picture of a sequence that stands in a buffer of words, as bus's `sign_word_lem` makes them. Only contracts of inner functions cite this.
-use Rattle.std.specs.Prelude.{ℕ, ◌+◌, ◌/◌, ◌%◌, List, [], ◌∷◌, ◌++◌, eqb}
-use Rattle.regs.specs.Program.{if◌then◌else◌}
+-- The picture of a sequence that stands in a buffer of words, as bus's `sign_word` makes them. Only contracts of inner functions cite this.
+use Rattle.std.specs.Prelude.{ℕ, ◌+◌, ◌/◌, ◌%◌, List, [], ◌∷◌, ◌++◌, eqb, if◌then◌else◌}
 use Rattle.text_hex.specs.Text.{hex2}
 use Rattle.text_tables.specs.Ascii.{ascii}
 use Rattle.svg_text.specs.Picture.{shape_text, byte_text, direction_text, column, row, lanes_text, head_text, note_text}

@@ -1,6 +1,5 @@
 -- A master transfer as a machine: the access at each point, where a reading leads, and what is stored with it.
-use Rattle.std.specs.Prelude.{ℕ, ◌+◌, ◌-◌, ◌%◌, ◌^◌, min, Bool, true, false, ◌&&◌, ◌||◌, ltb, List, length, ◌==◌, nat_lt, slice_index}
-use Rattle.regs.specs.Program.{if◌then◌else◌}
+use Rattle.std.specs.Prelude.{ℕ, ◌+◌, ◌-◌, ◌%◌, ◌^◌, min, Bool, true, false, ◌&&◌, ◌||◌, ltb, List, length, ◌==◌, nat_lt, slice_index, if◌then◌else◌}
 use Rattle.regs.specs.Registers.{TAR, DATA_CMD, INTR_MASK, RAW_INTR_STAT, RX_TL, TX_TL, CLR_TX_ABRT, CLR_STOP_DET}
 use Rattle.regs.specs.Registers.{ENABLE, TXFLR, RXFLR, TX_ABRT_SOURCE}
 use Rattle.regs.specs.Fields.{command_word, dat, address_field, level, tx_empty, stop_det, set_m_rx_full}
@@ -374,7 +373,7 @@ advance_of coded kinds lengths t v = moved_to coded kinds lengths t (step_of t.l
 unfoldable pub tested_point : ℕ → Point
 tested_point address = if nat_lt address 0x80 then Setup Disable else Finished (Refused (X.AddressOutOfRange address))
 
--- an async transfer of no operations makes no access at Any address
+-- an async transfer of no operations makes no access at any address
 unfoldable pub first_point : Mode → ℕ → Bool → Point
 first_point Blocking address none = tested_point address
 first_point Async address none = if none then Finished Accepted else tested_point address

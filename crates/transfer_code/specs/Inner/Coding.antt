@@ -1,8 +1,7 @@
 -- The code of a transfer operation by operation, as it is computed.
-use Rattle.std.specs.Prelude.{ℕ, ◌+◌, ◌*◌, ◌≤◌, List, ◌≡◌, eqb, take, drop}
+use Rattle.std.specs.Prelude.{ℕ, ◌+◌, ◌*◌, ◌≤◌, List, ◌≡◌, eqb, take, drop, if◌then◌else◌}
 use Rattle.crc8.specs.Crc8.{crc8_from}
 use Rattle.regs.specs.Fields.{dat}
-use Rattle.regs.specs.Program.{if◌then◌else◌}
 use Rattle.master.specs.Operations.{READ, WRITE}
 use Rattle.master.specs.Inner.Message.{NO_KIND, opened}
 use Rattle.transfer_code.specs.declared.code.Coding.{Coding}

@@ -1,13 +1,12 @@
 -- What becomes of a run, on the words of its log: by the last access to DATA_CMD the code is put there or tested.
--- That this is what `settled` of master says of the outcome is `settle-leaves` (proofs/Settling.antt).
-use Rattle.std.specs.Prelude.{ℕ, zero, suc, ◌+◌, ◌*◌, Bool, true, false, not, ◌&&◌, List, ◌≡◌, eqb, get_or, set}
+-- That this is what `settled` of master says of the outcome is `settle_leaves` (proofs/Settling.antt).
+use Rattle.std.specs.Prelude.{ℕ, zero, suc, ◌+◌, ◌*◌, Bool, true, false, not, ◌&&◌, List, ◌≡◌, eqb, get_or, set, if◌then◌else◌}
 use Rattle.regs.specs.declared.access.Ran.{Ran}
 use Rattle.regs.specs.declared.answers.Answer.TheVariants.{Accepted, Heard, Responded, Refused}
 use Rattle.regs.specs.declared.answers.Refusal.TheVariants.{WrongPacketErrorCode}
 use Rattle.regs.specs.declared.answers.Reply.{Reply}
 use Rattle.regs.specs.declared.answers.Reply.TheVariants.{Answered, OutOfReadings, LogFull}
 use Rattle.regs.specs.Fields.{command_word, cmd, stop, dat}
-use Rattle.regs.specs.Program.{if◌then◌else◌}
 use Rattle.master.specs.CodedLaws.{tested_reply}
 use Rattle.transfer_code.specs.declared.settle.LastAt.{LastAt}
 use Rattle.transfer_code.specs.declared.settle.LastAt.TheVariants.{Nowhere, Got, Put}

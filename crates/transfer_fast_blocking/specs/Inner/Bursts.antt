@@ -1,5 +1,5 @@
 -- A burst: the run of a transfer comes from one point to another within one operation, whatever the transfer's other operations are.
-use Rattle.std.specs.Prelude.{ℕ, ◌-◌, Bool, not, ◌&&◌, List, ◌≡◌, eqb, ltb}
+use Rattle.std.specs.Prelude.{ℕ, Bool, not, ◌&&◌, List, ◌≡◌, eqb, ltb}
 use Rattle.regs.specs.Fields.{level, tx_empty}
 use Rattle.transfer.specs.Inner.Points.{with_point}
 use Rattle.transfer.specs.Inner.Machine.{machine}

@@ -1,7 +1,6 @@
 -- A transfer as 20 words. Whatever the words are, they stand for a transfer
 -- under way, or for one that is over, of which number and detail are left.
-use Rattle.std.specs.Prelude.{ℕ, ◌%◌, ◌^◌, Bool, true, false, not, List, eqb, ltb, get_or}
-use Rattle.regs.specs.Program.{if◌then◌else◌}
+use Rattle.std.specs.Prelude.{ℕ, ◌%◌, ◌^◌, Bool, true, false, not, List, eqb, ltb, get_or, if◌then◌else◌}
 use Rattle.transfer.specs.declared.Mode.{Mode}
 use Rattle.transfer.specs.declared.Mode.TheVariants.{Blocking, Async}
 use Rattle.transfer.specs.declared.Transfer.{Transfer}
@@ -61,6 +60,6 @@ transfer_in s =
       writes = get_or s 19 0;
     }
 
--- groups 0 to 7 have points; Any other group is the end, with the number in the row and the detail in the word
+-- groups 0 to 7 have points; any other group is the end, with the number in the row and the detail in the word
 unfoldable pub held_at : List ℕ → Held
 held_at s = if ltb 7 (get_or s 0 0) then Over (get_or s 1 0 % 2 ^ 8) (full_of (get_or s 2 0)) else Live (transfer_in s)

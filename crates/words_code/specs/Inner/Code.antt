@@ -1,7 +1,6 @@
 -- The running packet error code as two bytes, what it does to a word and to the number of an answer, and what an access
 -- makes of it.
-use Rattle.std.specs.Prelude.{ℕ, not, ◌&&◌, List, eqb, get_or}
-use Rattle.regs.specs.Program.{if◌then◌else◌}
+use Rattle.std.specs.Prelude.{ℕ, not, ◌&&◌, List, eqb, get_or, if◌then◌else◌}
 use Rattle.regs.specs.declared.access.Entry.TheVariants.{Read, Write}
 use Rattle.master.specs.Inner.Running.{Sum, fresh, feed, running}
 
@@ -15,7 +14,7 @@ fresh_sum = fresh
 unfoldable pub sum_in : List ℕ → Sum
 sum_in code = sum (get_or code 0 0) (get_or code 1 0)
 
--- what is written in place of a word; Any address will do, the value does not depend on it
+-- what is written in place of a word; any address will do, the value does not depend on it
 unfoldable pub word_by : Sum → ℕ → ℕ → ℕ
 word_by s r w = (running 0).value s r w
 

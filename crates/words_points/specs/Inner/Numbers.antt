@@ -1,6 +1,5 @@
 -- A point as numbers: which row of numbers each point has, and which point a row stands for.
-use Rattle.std.specs.Prelude.{ℕ, eqb}
-use Rattle.regs.specs.Program.{if◌then◌else◌}
+use Rattle.std.specs.Prelude.{ℕ, eqb, if◌then◌else◌}
 use Rattle.regs.specs.Answers.{number, detail}
 use Rattle.regs.specs.declared.answers.AbortReason.{AbortReason}
 use Rattle.regs.specs.declared.answers.AbortReason.TheVariants as E
