@@ -9,7 +9,8 @@ use lib.Seq.{length-take-le, get_or-take}
 use Rattle.regs.specs.Log.{entry, decode}
 use Rattle.regs.specs.declared.access.Entry.{Entry}
 use Rattle.regs.specs.declared.access.Entry.TheVariants.{Read, Write, Marked}
-use Rattle.regs.specs.Program.{if◌then◌else◌, PENDING}
+use Rattle.regs.specs.Program.{PENDING}
+use Rattle.std.specs.Prelude.{if◌then◌else◌}
 use Rattle.regs.proofs.RoundTrip.{decode_next, decode_end}
 use Rattle.text_hex.specs.Print.{plain_frame, word_frame, entry_text, log_text}
 use Rattle.text_hex.specs.Appended.{Appended}

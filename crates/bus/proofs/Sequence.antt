@@ -10,7 +10,7 @@ use lib.ListN.{length, get_or, set, drop, length-append}
 use lib.Seq.{sets, length-sets}
 use Rattle.regs.specs.declared.access.Entry.{Entry}
 use Rattle.regs.specs.declared.access.Entry.TheVariants.{Read, Write, Marked}
-use Rattle.regs.specs.Program.{if◌then◌else◌}
+use Rattle.std.specs.Prelude.{if◌then◌else◌}
 use Rattle.regs.specs.Registers.{DATA_CMD}
 use Rattle.regs.specs.Fields.{stop}
 use Rattle.regs.specs.Log.{entry, decode, written_to}

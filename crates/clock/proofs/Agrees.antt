@@ -1,4 +1,4 @@
--- The machine does what `set-config` does.
+-- The machine does what `set_config` does.
 use Prim.Native.Nat.{ℕ, ◌+◌, ◌-◌, ◌<◌, ◌≤◌}
 use native.Mathlib.Omega.{arith}
 use mathlib.Core.Bool.{false}

@@ -1,4 +1,4 @@
--- The rate by what the code computes: in range, and legal. It rests on `stepped-set-config`: the machine, stepped from where
+-- The rate by what the code computes: in range, and legal. It rests on `stepped_set_config`: the machine, stepped from where
 -- these put it, answers what `set_config` answers.
 use Prim.Native.Nat.{ℕ, ◌+◌, ◌<◌, ◌≤◌}
 use native.Mathlib.Omega.{arith}

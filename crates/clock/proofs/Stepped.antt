@@ -1,4 +1,4 @@
--- Clock setup by steps is `set_config`. It rests on `set-config-agrees`.
+-- Clock setup by steps is `set_config`. It rests on `set_config_agrees`.
 use Rattle.regs.proofs.Stepped.{stepped_as}
 use Rattle.clock_setting.specs.SetConfig.{set_config}
 use Rattle.clock.specs.Steps.{SteppedSetConfig}

@@ -9,7 +9,8 @@ use lib.Dec.{ltb}
 use lib.ListN.{replicate}
 use borrow.Author.Tests.{ltb-true, ltb-false, lt-ltb, le-ltb}
 use Rattle.regs.proofs.Tests.{by_test}
-use Rattle.regs.specs.Program.{if◌then◌else◌, outcome}
+use Rattle.regs.specs.Program.{outcome}
+use Rattle.std.specs.Prelude.{if◌then◌else◌}
 use Rattle.clock_setting.specs.SetConfig.{set_config, period, lcnt_of, hcnt_of, hold_below_1_mhz, hold_at_1_mhz, spklen}
 use Rattle.clock_setting.specs.Datasheet.{hcnt, lcnt, hold, Lawful, Lasts, Timed, Ends, HeldInTime}
 use Rattle.clock_setting.specs.Table.{FirstRow}

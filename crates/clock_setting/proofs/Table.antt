@@ -3,13 +3,13 @@ use Prim.Native.Nat.{ℕ, zero, suc, ◌-◌, ◌/◌, ◌<◌, ◌≤◌}
 use native.Mathlib.Omega.{arith}
 use mathlib.Core.Bool.{true, false}
 use mathlib.Core.List.{List, [], ◌∷◌}
-use mathlib.Core.Logic.{◌⊎◌, inl, inr, ⊎_elim}
-use mathlib.Core.Path.{◌≡◌, refl, sym}
+use mathlib.Core.Logic.{◌⊎◌, inl, inr}
+use mathlib.Core.Path.{◌≡◌, refl}
 use lib.Dec.{eqb, ltb}
 use lib.ListN.{length}
 use borrow.Author.Tests.{ltb-true, ltb-false, eqb-true, eqb-false}
 use Rattle.regs.proofs.Tests.{by_test}
-use Rattle.regs.specs.Program.{Behaviour, ends, reads, writes, Outcome, outcome, behaviour}
+use Rattle.regs.specs.Program.{Behaviour, ends, reads, writes, Outcome, outcome}
 use Rattle.regs.specs.Registers.{ENABLE, FS_SCL_HCNT, FS_SCL_LCNT, FS_SPKLEN, SDA_HOLD}
 use Rattle.regs.specs.Fields.{set_ic_sda_tx_hold}
 use Rattle.regs.specs.Answers.{number}

@@ -1,4 +1,4 @@
--- The register can be shifted back, so two registers that differ still differ after Any further bits;
+-- The register can be shifted back, so two registers that differ still differ after any further bits;
 -- and two bytes that differ leave different registers.
 use Prim.Native.Nat.{ℕ, ◌+◌, ◌*◌, ◌/◌, ◌%◌, ◌^◌, ◌<◌}
 use native.Mathlib.Omega.{arith}
@@ -9,7 +9,7 @@ use lib.Bits.{bit_xor, xor_lt}
 use lib.Dec.{eqb, eqb→eq, lit<}
 use lib.Pow.{field, mod-mod-pow}
 use Rattle.regs.specs.Fields.{b2n, bit}
-use Rattle.regs.specs.Program.{if◌then◌else◌}
+use Rattle.std.specs.Prelude.{if◌then◌else◌}
 use Rattle.regs.proofs.Table.{under}
 use Rattle.crc8.specs.Crc8.{POLYNOMIAL, after_bit, after_bits, after_byte}
 use Rattle.crc8.proofs.Xor.{xor_cancel}

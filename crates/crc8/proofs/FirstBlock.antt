@@ -1,10 +1,10 @@
 -- The first block: its bytes are copied to the end of lanes that are 0 (`Copying`), and the start value goes into the
--- first of them, so that the lanes have the code of the block from that value on (`with-start`).
+-- first of them, so that the lanes have the code of the block from that value on (`with_start`).
 use Prim.Native.Nat.{ℕ, ◌+◌, ◌%◌, ◌<◌, ◌≤◌}
 use native.Mathlib.Numerals.{add-one}
 use native.Mathlib.Omega.{arith}
 use mathlib.Core.List.{List, [], ◌∷◌, ◌++◌, append-nil}
-use mathlib.Core.Path.{◌≡◌, refl, sym, ap, ap₂, ◌∙◌}
+use mathlib.Core.Path.{◌≡◌, sym, ap, ap₂, ◌∙◌}
 use lib.Bits.{bit_xor, xor_mod, xor_zero_l}
 use lib.ListN.{length, take, drop, get_or, set, replicate, length-replicate, length-set, replicate-append-replicate}
 use lib.ListN.{drop_of_length-le}

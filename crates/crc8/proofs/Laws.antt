@@ -44,7 +44,7 @@ only_residue start x bytes h l e =
     let m : r < 256 = is_byte start bytes h in
     byte_same r x r m l m (sym (in_parts start bytes (x ∷ [])) ∙ e ∙ sym (own_code r m))
 
--- registers that differ still differ after Any further bytes
+-- registers that differ still differ after any further bytes
 start_same : (r s : ℕ) (xs : List ℕ) → r < 256 → s < 256 → crc8_from r xs ≡ crc8_from s xs → r ≡ s
 unfolding crc8_from
 start_same r s [] h l e = e

@@ -8,7 +8,7 @@ use mathlib.Core.Path.{◌≡◌, refl, sym, ap, ap₂, ◌∙◌}
 use lib.Bits.{bit_xor, differ, xor_shr, xor_mod, xor_zero_r}
 use lib.Dec.{eqb, eqb→eq}
 use Rattle.regs.specs.Fields.{bit}
-use Rattle.regs.specs.Program.{if◌then◌else◌}
+use Rattle.std.specs.Prelude.{if◌then◌else◌}
 use Rattle.regs.proofs.Table.{under}
 use Rattle.crc8.specs.Crc8.{POLYNOMIAL, after_bit, after_bits, after_byte}
 use Rattle.crc8.proofs.Xor.{xor_low, xor_swap, xor_double}

@@ -1,16 +1,15 @@
--- A message by lanes. Bits 0 behind a message are bits 0 behind each of its bytes (`moved-code`), 16 bytes 0 are as one
--- bit 0 (`sixteen`, computed for the registers of one bit), so 64 are as four (`sixty-four`, `as-four-bits`), and a further
+-- A message by lanes. Bits 0 behind a message are bits 0 behind each of its bytes (`moved_code`), 16 bytes 0 are as one
+-- bit 0 (`sixteen`, computed for the registers of one bit), so 64 are as four (`sixty_four`, `as_four_bits`), and a further
 -- block is taken in lane by lane (`step`).
-use Prim.Native.Nat.{ℕ, zero, suc, ◌*◌, ◌/◌, ◌%◌, ◌^◌, ◌<◌}
+use Prim.Native.Nat.{ℕ, ◌*◌, ◌/◌, ◌%◌, ◌^◌, ◌<◌}
 use native.Mathlib.Omega.{arith}
-use mathlib.Core.Bool.{Bool, true, false, xor}
+use mathlib.Core.Bool.{false, xor}
 use mathlib.Core.List.{List, [], ◌∷◌, ◌++◌, map}
 use mathlib.Core.Path.{◌≡◌, refl, sym, ap, ap₂, ◌∙◌}
 use lib.Bits.{bit_xor}
 use lib.Dec.{eqb, eqb→eq, lit<}
 use lib.ListN.{length, replicate, length-map}
-use Rattle.regs.specs.Fields.{bit}
-use Rattle.regs.specs.Program.{if◌then◌else◌}
+use Rattle.std.specs.Prelude.{if◌then◌else◌}
 use Rattle.regs.proofs.Table.{under}
 use Rattle.crc8.specs.Crc8.{POLYNOMIAL, after_bit, after_bits, after_byte, crc8_from, crc8}
 use Rattle.crc8.specs.Laws.{AsFourBits}

@@ -1,4 +1,4 @@
--- The code of the lanes by their quarters, each taken byte by byte beside the others. By `behind-part` (Moved.antt).
+-- The code of the lanes by their quarters, each taken byte by byte beside the others. By `behind_part` (Moved.antt).
 use Prim.Native.Nat.{ℕ, ◌+◌, ◌<◌, ◌≤◌}
 use native.Mathlib.Omega.{arith}
 use mathlib.Core.Bool.{false}

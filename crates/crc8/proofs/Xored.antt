@@ -1,4 +1,4 @@
--- The code is linear in the message too (`xored-code`), bytes 0 in front of a message do not count (`filled`), and 127
+-- The code is linear in the message too (`xored_code`), bytes 0 in front of a message do not count (`filled`), and 127
 -- bytes 0 leave the register as it was (`period`, computed for the registers of one bit).
 use Prim.Native.Nat.{ℕ, zero, suc, ◌%◌, ◌^◌, ◌<◌}
 use native.Mathlib.Omega.{arith}
@@ -9,7 +9,7 @@ use lib.Bits.{bit_xor, xor_mod, xor_zero_l, xor_zero_r}
 use lib.Dec.{eqb, eqb→eq, lit<}
 use lib.ListN.{length, replicate, length-replicate}
 use Rattle.regs.specs.Fields.{bit}
-use Rattle.regs.specs.Program.{if◌then◌else◌}
+use Rattle.std.specs.Prelude.{if◌then◌else◌}
 use Rattle.regs.proofs.Table.{under}
 use Rattle.crc8.specs.Crc8.{after_bit, after_bits, after_byte, crc8_from, crc8}
 use Rattle.crc8.specs.Laws.{PERIOD, Period}

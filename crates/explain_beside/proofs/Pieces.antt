@@ -8,7 +8,7 @@ use lib.Dec.{eqb}
 use lib.ListN.{length}
 use borrow.Author.Tests.{eqb-true, ne_eqb}
 use Rattle.regs.specs.declared.access.Entry.TheVariants as entries
-use Rattle.regs.specs.Program.{if◌then◌else◌}
+use Rattle.std.specs.Prelude.{if◌then◌else◌}
 use Rattle.regs.specs.Registers.{TAR, DATA_CMD}
 use Rattle.regs.specs.Fields.{address_field}
 use Rattle.regs.specs.Log.{entry, decode, written_to}

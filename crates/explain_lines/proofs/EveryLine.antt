@@ -1,4 +1,4 @@
--- Calls of `explain_line` one after the other write what Printed says: each call is a step of `explained-from` by its contract, and
+-- Calls of `explain_line` one after the other write what Printed says: each call is a step of `explained_from` by its contract, and
 -- lines that were cut are printed as if whole (proofs/Cut.antt).
 use mathlib.Core.List.{List, ◌++◌}
 use mathlib.Core.Path.{◌≡◌, refl, ap, ◌∙◌}

@@ -9,7 +9,7 @@ use lib.Dec.{ltb}
 use lib.ListN.{length, take, drop, length-take, length-drop}
 use lib.Seq.{length-take-le, take-append-le, take-append-add}
 use borrow.Author.Tests.{le-ltb}
-use Rattle.regs.specs.Program.{if◌then◌else◌}
+use Rattle.std.specs.Prelude.{if◌then◌else◌}
 use Rattle.regs.specs.Registers.{DATA_CMD}
 use Rattle.regs.specs.Log.{decode}
 use Rattle.bus.specs.Bus.{bus_sequence}

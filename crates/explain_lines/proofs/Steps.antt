@@ -6,7 +6,7 @@ use mathlib.Core.Bool.{Bool, true, false}
 use mathlib.Core.List.{List, [], ◌++◌}
 use mathlib.Core.Path.{◌≡◌, sym, ap, subst⁻¹, ◌∙◌}
 use lib.ListN.{length, take}
-use Rattle.regs.specs.Program.{if◌then◌else◌}
+use Rattle.std.specs.Prelude.{if◌then◌else◌}
 use Rattle.text_hex.specs.Appended.{Appended}
 use Rattle.answer_frames.specs.Frames.{frame_of, is_answer}
 use Rattle.explain_beside.specs.Piece.{next}

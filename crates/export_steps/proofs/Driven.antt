@@ -1,5 +1,5 @@
 -- A step on what is held of a transfer is the step of the transfer: its access, the transfer after it, and what it stores.
--- It rests on `point-kept`: what is held loses nothing of a point with more to do.
+-- It rests on `point_kept`: what is held loses nothing of a point with more to do.
 use Prim.Native.Nat.{ℕ}
 use mathlib.Core.Path.{◌≡◌, refl}
 use mathlib.Core.Bool.{Bool}

@@ -1,5 +1,5 @@
 -- From its start the machine steps as the call of each form, or ends with 20. It rests on `stepped_within` and
--- `coded-within`: within the limits each transfer by steps is its call.
+-- `coded_within`: within the limits each transfer by steps is its call.
 use Prim.Native.Nat.{ℕ, zero, suc, ◌/◌, ◌%◌, ◌^◌, ◌<◌}
 use native.Mathlib.Omega.{arith}
 use mathlib.Core.Bool.{Bool, true, false, ◌&&◌}

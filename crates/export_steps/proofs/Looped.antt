@@ -1,5 +1,5 @@
 -- A caller's loop over the exported steps leaves what the form's call is to leave. It rests on `Driven` (a step on the words
--- is the step of the transfer) and on `steps-are-called` (the transfer's steps are the call).
+-- is the step of the transfer) and on `steps_are_called` (the transfer's steps are the call).
 use Prim.Native.Nat.{ℕ, zero, suc, ◌<◌}
 use native.Mathlib.Omega.{arith}
 use mathlib.Core.Bool.{Bool, true, false}
@@ -93,7 +93,7 @@ told_full (Finished answer) buffer me e k = absurd (omega (arith, ap kind_of e))
 
 -- ---- the loop
 
--- over Any machine that does what is told of, led to and stored by what is held: `Same` says which point is held
+-- over any machine that does what is told of, led to and stored by what is held: `Same` says which point is held
 module _ (pec : Bool) (kinds lengths bytes : List ℕ) (M : Machine) (Same : Holding pec → M.S → Type 0)
     (tells : (held : Holding pec) (s : M.S) (a : Access) → Same held s → Tells pec held bytes a → a ≡ access_of (M.next s))
     (moves : (held held' : Holding pec) (s : M.S) (v : ℕ) → Same held s → Moves pec kinds lengths bytes held v held'

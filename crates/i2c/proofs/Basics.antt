@@ -6,7 +6,8 @@ use mathlib.Core.List.{List}
 use mathlib.Core.Path.{◌≡◌, refl, sym}
 use lib.Dec.{eqb, ltb}
 use Rattle.regs.proofs.Tests.{by_test}
-use Rattle.regs.specs.Program.{if◌then◌else◌, Behaviour, ends, reads, writes, marks, ok, err, by_turn, Poll}
+use Rattle.regs.specs.Program.{Behaviour, ends, reads, writes, marks, ok, err, by_turn, Poll}
+use Rattle.std.specs.Prelude.{if◌then◌else◌}
 use Rattle.regs.specs.Program.{pending, ready, polled, wait_on, return, modify}
 use Rattle.regs.specs.Registers.{INTR_MASK, RAW_INTR_STAT, CLR_STOP_DET}
 use Rattle.regs.specs.Fields.{stop_det, set_m_stop_det, set_m_tx_abrt}
@@ -82,7 +83,7 @@ module _ (coded : Bool) (kinds lengths bytes : List ℕ) where
       (λ m₁ l₁. writes_agree M m₁ refl
       (λ m₂ l₂. writes_agree M m₂ refl (λ m₃ l₃. next m₃ (omega arith) (Setup Enable)))))
 
-  -- fn read_and_clear_abort_reason, called from Any place
+  -- fn read_and_clear_abort_reason, called from any place
   pub reason_agrees : (t : Transfer) (caller : Caller) (m n : ℕ) (b : List ℕ) (k : Tried (Unit {0}) → Behaviour (Unit {0}) Answer)
       → ((m' : ℕ)
       → m' < m

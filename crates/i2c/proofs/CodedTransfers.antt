@@ -1,6 +1,6 @@
 -- The transfers with a packet error code, but for the code itself: from the first access to the answer the machine does what
 -- the transfer does whose last operation is one byte longer, with 0 where the code goes. For both modes together, by
--- `coded-agree` (ListedCoded.antt).
+-- `coded_agree` (ListedCoded.antt).
 use Prim.Native.Nat.{ℕ, suc, ◌≤◌}
 use native.Mathlib.Omega.{arith}
 use native.Mathlib.Nat.{add-zero}

@@ -1,4 +1,4 @@
--- The machine of a transfer does what the Rust does: a lemma for each Rust function, over Any continuation.
+-- The machine of a transfer does what the Rust does: a lemma for each Rust function, over any continuation.
 pub mod Basics
 pub mod Bytes
 pub mod EndAsync

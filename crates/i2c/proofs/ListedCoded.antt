@@ -1,14 +1,14 @@
 -- The operations that kinds and lengths list, with a packet error code: an empty write is refused, and the last operation is
 -- one byte longer. Past the lent bytes the machine sends 0, which stands where the code goes. By the lemmas of one operation
 -- (Operations.antt).
-use Prim.Native.Nat.{ℕ, zero, suc, ◌+◌, ◌%◌, ◌^◌, ◌<◌, ◌≤◌}
+use Prim.Native.Nat.{ℕ, zero, suc, ◌+◌, ◌%◌, ◌^◌, ◌≤◌}
 use native.Mathlib.Omega.{arith}
 use native.Mathlib.Nat.{zero-add}
 use native.Mathlib.Numerals.{add-one}
 use mathlib.Core.Bool.{Bool, true, false, true≢false}
 use mathlib.Core.List.{List, [], ◌∷◌, ◌++◌}
-use mathlib.Core.Path.{◌≡◌, refl, sym, ap, ◌∙◌, subst}
-use lib.Dec.{eqb, ltb}
+use mathlib.Core.Path.{◌≡◌, refl, sym, ◌∙◌, subst}
+use lib.Dec.{eqb}
 use lib.ListN.{length, get_or, take, drop, length-drop, length-append}
 use lib.Seq.{drop-drop, take-length, get_or-drop}
 use borrow.Author.Tests.{lt-ltb, le-ltb, eq-eqb, ne_eqb}
@@ -20,7 +20,7 @@ use Rattle.regs.specs.declared.answers.Refusal.TheVariants.{InvalidWriteBufferLe
 use Rattle.regs.proofs.Refine.{ends_agree}
 use Rattle.master.specs.Driver.{reason_of}
 use Rattle.master.specs.Async.{is_empty}
-use Rattle.master.specs.Operations.{Operation, writes, reads, listed, total, READ, WRITE}
+use Rattle.master.specs.Operations.{Operation, writes, reads, listed, total, WRITE}
 use Rattle.master.specs.Transfer.{write_internal}
 use Rattle.master.specs.Coded.{longer, with_code, each_coded}
 use Rattle.transfer.specs.Inner.Points.{with_point, mode_of}
@@ -29,7 +29,7 @@ use Rattle.transfer.specs.declared.Transfer.{Transfer}
 use Rattle.transfer.specs.declared.Mode.{Mode}
 use Rattle.transfer.specs.declared.Mode.TheVariants.{Blocking, Async}
 use Rattle.transfer.specs.declared.Point.{Point}
-use Rattle.i2c.proofs.Basics.{MOST, sum_is, M, Agrees}
+use Rattle.i2c.proofs.Basics.{sum_is, M, Agrees}
 use Rattle.i2c.proofs.Bytes.{Held}
 use Rattle.i2c.proofs.EndAsync.{Good}
 use Rattle.i2c.proofs.Operations.{read_agrees, write_agrees}

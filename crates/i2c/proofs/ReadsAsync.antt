@@ -43,7 +43,7 @@ module _ (coded : Bool) (kinds lengths bytes : List ℕ) (t : Transfer) (n : ℕ
   abbrev Does : ℕ → Transfer → List ℕ → Behaviour (Unit {0}) Answer → Type 0
   Does = Agrees coded kinds lengths bytes
 
-  -- where a round begins, from Any point
+  -- where a round begins, from any point
   abbrev turn_at : Point → ℕ → ℕ → ℕ → Transfer
   turn_at p remaining queue batch = moved_to coded kinds lengths (with_point t p) (next_turn t.send_stop (counted remaining queue batch))
 

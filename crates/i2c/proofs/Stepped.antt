@@ -5,7 +5,8 @@ use mathlib.Core.Bool.{Bool, true, false}
 use mathlib.Core.List.{List, [], ◌∷◌}
 use mathlib.Core.Path.{◌≡◌, refl, ap, ◌∙◌}
 use lib.ListN.{length}
-use Rattle.regs.specs.Program.{if◌then◌else◌, Outcome, outcome, just}
+use Rattle.regs.specs.Program.{Outcome, outcome, just}
+use Rattle.std.specs.Prelude.{if◌then◌else◌}
 use Rattle.regs.specs.Log.{Each, expected}
 use Rattle.regs.specs.Steps.{stepped, SteppedAs}
 use Rattle.regs.specs.Inner.Summed.{summed_machine}
@@ -36,7 +37,7 @@ use Rattle.i2c.proofs.Called.{fits_is, all_left}
 use Rattle.i2c.proofs.CodedTransfers.{coded_lent}
 use Rattle.i2c.proofs.Transfers.{read_transfer, write_transfer, write_read_transfer, transaction_transfer}
 
--- within the limits, from Any buffer
+-- within the limits, from any buffer
 abbrev Stepped : Mode → ℕ → Lent → Type 0
 Stepped mode address l =
     SteppedAs (machine false (kinds_in l) (lengths_in l) (bytes_in l)) (λ me. started mode (restart_in l) address (kinds_in l))

@@ -11,7 +11,7 @@ use lib.ListN.{length, get_or, drop, drop_of_length-le}
 use lib.Seq.{drop-cons}
 use borrow.Author.Tests.{eqb-true, ne_eqb}
 use Rattle.regs.proofs.Tests.{by_test}
-use Rattle.regs.specs.Program.{if◌then◌else◌}
+use Rattle.std.specs.Prelude.{if◌then◌else◌}
 use Rattle.master.specs.Operations.{total, known, fits, READ, WRITE}
 use Rattle.i2c.specs.Inner.Limits.{add_total, add_totals, Small, add_up}
 use Rattle.i2c.specs.declared.limits.Totals.{Totals}

@@ -1,11 +1,12 @@
--- A watched machine does what the watched program does, from Any buffer. What the watcher has no place for stays as it was,
+-- A watched machine does what the watched program does, from any buffer. What the watcher has no place for stays as it was,
 -- so a watched buffer is the unwatched one over the first one.
 use Prim.Native.Nat.{ℕ, zero, suc}
 use mathlib.Core.Bool.{Bool, true, false}
 use mathlib.Core.List.{List, [], ◌∷◌}
 use mathlib.Core.Path.{◌≡◌, refl, ap}
 use lib.ListN.{set}
-use Rattle.regs.specs.Program.{if◌then◌else◌, Behaviour, ends, reads, writes, marks, stores, asks, keeps, cut}
+use Rattle.regs.specs.Program.{Behaviour, ends, reads, writes, marks, stores, asks, keeps, cut}
+use Rattle.std.specs.Prelude.{if◌then◌else◌}
 use Rattle.regs.specs.Steps.{Machine, stored_in}
 use Rattle.regs.specs.Watched.{Watcher, watched_from}
 use Rattle.regs.specs.Inner.Watched.{placed, watched_machine}

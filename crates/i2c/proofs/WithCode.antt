@@ -1,17 +1,17 @@
 -- A transfer with a packet error code: the machine's run with 0 for the code, settled by its last access to DATA_CMD,
--- leaves the outcome of the coded transfer. By `coded-transfer`, `settles-each` and `settle-leaves`.
+-- leaves the outcome of the coded transfer. By `coded_transfer`, `settles_each` and `settle_leaves`.
 use Prim.Native.Nat.{ℕ, zero, suc, ◌+◌, ◌*◌, ◌/◌, ◌<◌, ◌≤◌}
 use native.Mathlib.Nat.{add-zero}
 use native.Mathlib.Omega.{arith}
 use mathlib.Core.Bool.{Bool, true, ◌&&◌, ◌||◌}
-use mathlib.Core.List.{List, [], ◌∷◌, ◌++◌}
+use mathlib.Core.List.{List, [], ◌∷◌}
 use mathlib.Core.Path.{◌≡◌, refl, sym, ap, subst, ◌∙◌}
 use lib.Dec.{eqb, leb}
 use lib.ListN.{length, get_or, take, drop, length-append}
 use lib.Seq.{take-length}
 use borrow.Author.Tests.{eqb-true, eq-eqb}
 use Rattle.regs.specs.Program.{Outcome}
-use Rattle.regs.specs.Log.{Each, encode, expected, Leaves, LeavesBuffer}
+use Rattle.regs.specs.Log.{Each, encode, expected, LeavesBuffer}
 use Rattle.regs.specs.Watched.{watched}
 use Rattle.regs.specs.Inner.Machine.{final, ran}
 use Rattle.regs.specs.declared.access.Ran.{Ran}
@@ -24,7 +24,7 @@ use Rattle.master.specs.Transfer.{within}
 use Rattle.master.specs.Operations.{Operation, writes, reads, listed, lists, total, known, fits, READ, WRITE}
 use Rattle.master.specs.Coded.{code_of, with_code, room_of, coder, longer_transfer}
 use Rattle.master.specs.CodedLaws.{Small}
-use Rattle.master.specs.Inner.Settled.{LastData, none, got, put, last_data, settled_by, settled}
+use Rattle.master.specs.Inner.Settled.{LastData, none, got, put, last_data, settled_by}
 use Rattle.master.proofs.Accesses.{longer_access_legal}
 use Rattle.master.proofs.Settles.{settles_each}
 use Rattle.transfer_code.specs.Inner.Settling.{Settled}

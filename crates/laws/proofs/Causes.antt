@@ -1,5 +1,5 @@
--- A call is turned down before its first access exactly if a row of the table applies: `first-cause`. Where a row applies, the
--- definition ends with its number; where none does, it begins with an access, after which `nothing-touched` lets no such
+-- A call is turned down before its first access exactly if a row of the table applies: `first_cause`. Where a row applies, the
+-- definition ends with its number; where none does, it begins with an access, after which `nothing_touched` lets no such
 -- number come.
 use Prim.Native.Nat.{ℕ, zero, suc, ◌/◌}
 use native.Mathlib.Omega.{arith}

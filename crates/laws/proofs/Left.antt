@@ -1,9 +1,8 @@
--- Every public call leaves what its row says: `nothing-touched`, `bytes-stored`. Both are read off what the calls of each driver
+-- Every public call leaves what its row says: `nothing_touched`, `bytes_stored`. Both are read off what the calls of each driver
 -- leave (`Whole` of regs/proofs/Stores.antt): the clock's is proved here, the others' in crates/master/proofs/Buffer.antt,
 -- BufferCoded.antt and crates/slave/proofs/Calls.antt.
-use Prim.Native.Nat.{ℕ, ◌+◌, ◌/◌, ◌≤◌}
+use Prim.Native.Nat.{ℕ, ◌/◌}
 use native.Mathlib.Omega.{arith}
-use mathlib.Core.Bool.{true}
 use mathlib.Core.List.{List, [], ◌++◌, append-nil}
 use mathlib.Core.Path.{◌≡◌, refl, sym, ap, ◌∙◌}
 use lib.Dec.{eqb, ltb}
@@ -14,7 +13,7 @@ use Rattle.regs.specs.Program.{ends, Outcome}
 use Rattle.regs.specs.Left.{bytes_read}
 use Rattle.regs.specs.declared.answers.Reply.{Reply}
 use Rattle.regs.proofs.Tests.{by_test}
-use Rattle.regs.proofs.Stores.{Stores, writes_stores, Late, Opens, refuses, begins, Whole, whole, none, Any}
+use Rattle.regs.proofs.Stores.{Stores, writes_stores, Late, Opens, refuses, begins, Whole, whole, none, any}
 use Rattle.regs.proofs.Quiet.{quiet}
 use Rattle.clock_setting.specs.SetConfig.{set_config, set_counts, period, hcnt_of, lcnt_of}
 use Rattle.master.specs.Calls as Master
@@ -25,10 +24,10 @@ use Rattle.slave.proofs.Calls as Slave
 use Rattle.laws.specs.Calls.{Call, clock, master, slave, State, buffer_in, kept_in, left_by}
 use Rattle.laws.specs.Left.{NothingTouched, Bytes, BytesStored}
 
-counts_quiet : (frequency clk hcnt lcnt n : ℕ) → Stores none (Late Any) 0 0 [] tt (set_counts frequency clk hcnt lcnt n ends)
+counts_quiet : (frequency clk hcnt lcnt n : ℕ) → Stores none (Late any) 0 0 [] tt (set_counts frequency clk hcnt lcnt n ends)
 counts_quiet frequency clk hcnt lcnt n = search quiet depth 20
 
-clock_opens : (frequency clk n : ℕ) → Opens none Any 0 tt (set_config frequency clk n ends)
+clock_opens : (frequency clk n : ℕ) → Opens none any 0 tt (set_config frequency clk n ends)
 unfolding set_config
 clock_opens frequency clk n =
     by_test (ltb 1000000 frequency) (λ q. rw q (refuses tt)) (λ q. rw q
@@ -38,8 +37,8 @@ clock_opens frequency clk n =
 
 -- what is said of the answer
 abbrev Told : Call → Reply → ℕ → Type 0
-Told (clock frequency clk) = Any
-Told (master c) = Any
+Told (clock frequency clk) = any
+Told (master c) = any
 Told (slave c) = Slave.Told c
 
 -- a call without a packet error code
@@ -51,7 +50,7 @@ Plain (slave c) = Unit {0}
 call_whole : (c : Call) → Plain c → (log readings : List ℕ) (me : State c)
     → Whole (kept_in c) (Told c) (buffer_in c) me (left_by c log readings me)
 call_whole (clock frequency clk) plain log readings me =
-    whole none Any (λ _. tt) (λ _. tt) (clock_opens frequency clk _) (length log / 2) readings [] refl
+    whole none any (λ _. tt) (λ _. tt) (clock_opens frequency clk _) (length log / 2) readings [] refl
 call_whole (master c) plain log readings me = left_whole c plain log readings
 call_whole (slave c) plain log readings me = Slave.call_whole c log readings me
 

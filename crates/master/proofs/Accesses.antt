@@ -1,6 +1,6 @@
 -- Every access of every call is legal, TAR is written only while the block is disabled, and no refusal is TxNotEmpty:
 -- found along each function (`legal`), blocking and async together.
-use Prim.Native.Nat.{ℕ, zero, suc, ◌+◌, ◌-◌}
+use Prim.Native.Nat.{ℕ, zero, suc, ◌+◌, ◌-◌, min}
 use lib.Dec.{eqb, ltb}
 use borrow.Author.Tests.{eqb-true}
 use mathlib.Core.Bool.{Bool, true, false, not, ◌||◌}
@@ -8,7 +8,8 @@ use mathlib.Core.List.{List, [], ◌∷◌}
 use mathlib.Core.Path.{◌≡◌, refl}
 use Rattle.regs.specs.Registers.{INTR_MASK, DATA_CMD}
 use Rattle.regs.specs.Fields.{set_m_tx_abrt, set_m_stop_det}
-use Rattle.regs.specs.Program.{if◌then◌else◌, modify, ok, err, done, pending, ready, ends}
+use Rattle.regs.specs.Program.{modify, ok, err, done, pending, ready, ends}
+use Rattle.std.specs.Prelude.{if◌then◌else◌}
 use Rattle.regs.specs.declared.answers.AbortReason.{AbortReason}
 use Rattle.regs.specs.declared.access.Entry.{Entry}
 use Rattle.regs.specs.declared.access.Entry.TheVariants.{Write}
@@ -35,6 +36,7 @@ use Rattle.master.specs.Operations.{operations_of}
 use Rattle.master.specs.Coded.{tested, is_right, coder, each_coded, longer_transfer, with_code, restarts, coded}
 use Rattle.master.specs.Calls.{Lent, reads_into, writes_from, writes_then_reads, transacts, Call, program_of, program}
 use Rattle.master.specs.Calls.{within_limits, arguments, program_by}
+use Rattle.master.proofs.Masks.{batch_masks, space_masks}
 
 setup_legal : (address : ℕ) → LegalP (setup address)
 unfolding setup
@@ -140,7 +142,9 @@ round_legal : (offset len : ℕ) (restart stop : Bool) (counts : Counts)
 round_legal offset len restart stop counts n k h =
     if_program _ _ _ n k (not (ltb 0 counts.remaining)) (h (done (ok tt)) tt)
     (capacity_legal n _ (λ space. batch_legal len restart stop _ counts.remaining_queue n _ (λ _.
-    wait_on_with (Unit {0}) (Tried ℕ) ProperTried tt (λ _. batch_poll reason_of _) _ (λ _. batch_poll_legal _) (search legal) n _
+    wait_on_with (Unit {0}) (Tried ℕ) ProperTried tt
+    (λ _. batch_poll reason_of (min counts.remaining_queue space)) (batch_masks (min counts.remaining_queue space))
+    (λ _. batch_poll_legal _) (search legal) n _
     (λ res c. take_legal offset len counts.remaining _ res c n k h))))
 
 fill_legal : (stop : Bool) (space : ℕ) (bs : List ℕ) → LegalP (fill stop space bs)
@@ -160,7 +164,7 @@ go_proper bytes (err reason) c = c
 space_legal : (filled : Filled) → LegalWith (InTurn ProperTried) (wait_space reason_of filled)
 space_legal break_xmit = search legal
 space_legal (full bs) = λ n k h.
-    wait_on_with (Unit {0}) (Tried (Unit {0})) ProperTried tt (λ _. (space_poll reason_of)) _ (λ _. search (abort_legal, come_legal))
+    wait_on_with (Unit {0}) (Tried (Unit {0})) ProperTried tt (λ _. (space_poll reason_of)) space_masks (λ _. search (abort_legal, come_legal))
     (search legal) n _ (λ res c. h (go_on bs res) (go_proper bs res c))
 
 xmit_legal : (stop : Bool) (bs : List ℕ) → LegalWith (InTurn ProperTried) (xmit reason_of stop bs)

@@ -14,7 +14,8 @@ use lib.Dec.{eqb}
 use Rattle.regs.specs.declared.answers.Answer.{Answer}
 use Rattle.regs.specs.Registers.{DATA_CMD}
 use Rattle.regs.specs.Fields.{command_word, cmd, stop}
-use Rattle.regs.specs.Program.{if◌then◌else◌, ends, reads, writes, marks, stores, cut, when, turns, Turn, again, done}
+use Rattle.regs.specs.Program.{ends, reads, writes, marks, stores, cut, when, turns, Turn, again, done}
+use Rattle.std.specs.Prelude.{if◌then◌else◌}
 use Rattle.regs.specs.Program.{by_turn, rounds, Poll, pending, ready, polled}
 use Rattle.master.specs.Driver.{Driver}
 use Rattle.master.proofs.Emits.{Does}

@@ -14,7 +14,8 @@ use Rattle.regs.specs.declared.answers.Reply.TheVariants.{Answered}
 use Rattle.regs.specs.Registers.{DATA_CMD}
 use Rattle.regs.specs.Fields.{dat, command_word}
 use Rattle.regs.specs.Left.{bytes_read}
-use Rattle.regs.specs.Program.{if◌then◌else◌, ends, stores, Outcome, outcome, logged}
+use Rattle.regs.specs.Program.{ends, stores, Outcome, outcome, logged}
+use Rattle.std.specs.Prelude.{if◌then◌else◌}
 use Rattle.regs.specs.Watched.{watched_from}
 use Rattle.regs.proofs.Watched.{set_beyond}
 use Rattle.master.specs.Operations.{Operation}

@@ -1,7 +1,7 @@
--- `as-longer`: a coded transfer whose operations all have data leaves what the plain transfer on the longer operations
+-- `as_longer`: a coded transfer whose operations all have data leaves what the plain transfer on the longer operations
 -- leaves, but for 22. The two are alike (Alike.antt), function by function (AlikeParts.antt).
 use Prim.Native.Nat.{ℕ, zero, suc, ◌+◌, ◌/◌}
-use mathlib.Core.Bool.{Bool, true, false}
+use mathlib.Core.Bool.{true, false}
 use mathlib.Core.List.{List, [], ◌∷◌}
 use mathlib.Core.Path.{◌≡◌, refl}
 use lib.ListN.{length}

@@ -1,5 +1,5 @@
--- Each plain call stores every byte that it reads, at the next place of the lent buffer: `bytes-received`. It rests on a walk along
--- the driver's text by the law of regs/proofs/Stores.antt, `left-whole`, which also says where a number of no access can come.
+-- Each plain call stores every byte that it reads, at the next place of the lent buffer: `bytes_received`. It rests on a walk along
+-- the driver's text by the law of regs/proofs/Stores.antt, `left_whole`, which also says where a number of no access can come.
 use Prim.Native.Nat.{ℕ, zero, suc, ◌+◌, ◌-◌, ◌/◌, ◌≤◌, ◌<◌}
 use native.Mathlib.Omega.{arith}
 use mathlib.Core.Path.{◌≡◌, refl, sym, ap, ◌∙◌}
@@ -18,7 +18,7 @@ use Rattle.regs.specs.Program as P
 use Rattle.regs.specs.Program.{Outcome, ◌>>◌, rounds, by_turn, ok, err}
 use Rattle.regs.proofs.Tests.{false_true, both_of, by_test}
 use Rattle.regs.proofs.Stores.{Stores, data_stores, store_stores, cut_stores, Late, Opens, refuses, begins}
-use Rattle.regs.proofs.Stores.{Whole, whole, none, Any}
+use Rattle.regs.proofs.Stores.{Whole, whole, none, any}
 use Rattle.regs.proofs.Quiet.{Quiet, quiet, ends_late}
 use Rattle.master.specs.Driver.{Driver, Tried, try, while_turn, setup, tx_fifo_capacity, tx_fifo_full, rx_fifo_len, reason_of}
 use Rattle.master.specs.Driver.{read_and_clear_abort_reason}
@@ -37,12 +37,12 @@ use Rattle.master.proofs.Emits.{Does}
 
 -- with i bytes of L stored, t stores each byte that it reads at the next place
 abbrev pub Fills : ℕ → ℕ → Does → Type 0
-Fills L i t = Stores none (Late Any) L i [] tt t
+Fills L i t = Stores none (Late any) L i [] tt t
 
 -- parts that read no byte
 
 abbrev Still : {B : Type 0} → Driver B → Type 0
-Still p = Quiet none (Late Any) p
+Still p = Quiet none (Late any) p
 
 capacity_still : Still tx_fifo_capacity
 unfolding tx_fifo_capacity
@@ -194,7 +194,7 @@ operations_filled mode (writes bs ∷ os) offset L n k most h =
 -- ---- the calls
 
 abbrev pub Calls : ℕ → Does → Type 0
-Calls L t = Opens none Any L tt t
+Calls L t = Opens none any L tt t
 
 pub setup_opens : (address L n : ℕ) (k : Unit {0} → Does) → Fills L 0 (k tt) → Calls L (setup address n k)
 unfolding setup
@@ -282,11 +282,11 @@ call_opens mode address (transacts kinds lengths bytes buffer) n =
     let r = reads_listed kinds lengths bytes l.0 in
     omega (arith, r, l.1))
 
-pub left_whole : (c : Call) → Plain c → (log readings : List ℕ) → Whole none Any (buffer_in c.lent) tt (left_by_call c log readings)
+pub left_whole : (c : Call) → Plain c → (log readings : List ℕ) → Whole none any (buffer_in c.lent) tt (left_by_call c log readings)
 left_whole c plain log readings =
-    rw plain (whole none Any (λ _. tt) (λ _. tt) (call_opens c.mode c.address c.lent _) (length log / 2) readings (buffer_in c.lent) refl)
+    rw plain (whole none any (λ _. tt) (λ _. tt) (call_opens c.mode c.address c.lent _) (length log / 2) readings (buffer_in c.lent) refl)
 
-pub received : (before : List ℕ) (o : Outcome (Unit {0}) Reply) → Whole none Any before tt o → Received before o
+pub received : (before : List ℕ) (o : Outcome (Unit {0}) Reply) → Whole none any before tt o → Received before o
 received before o w =
     let s = w.stored in
     let front : bytes_read o.log ≡ take w.count o.buffer = s.bytes ∙ append-nil (take w.count o.buffer) in

@@ -1,4 +1,4 @@
--- Each call with a packet error code stores every byte that it reads, but for the code: `coded-received`. The transfer on
+-- Each call with a packet error code stores every byte that it reads, but for the code: `coded_received`. The transfer on
 -- the longer operations stores them all in a buffer with a place for the code (Buffer.antt); the call leaves the front of that.
 use Prim.Native.Nat.{ℕ, zero, suc, ◌+◌, ◌/◌, ◌≤◌}
 use native.Mathlib.Omega.{arith}
@@ -9,16 +9,16 @@ use lib.Dec.{ltb, T}
 use lib.ListN.{length, take, drop, length-append, length-drop, drop_of_length-le}
 use lib.Seq.{take_all, take-nil, take_at, take-append-le, drop-append-le, take-append_seam}
 use borrow.Author.Tests.{ltb-true, ltb-false}
-use Rattle.regs.specs.declared.access.Entry.{Entry}
 use Rattle.regs.specs.declared.answers.Answer.{Answer}
 use Rattle.regs.specs.declared.answers.Answer.TheVariants.{Accepted, Heard, Responded, Refused}
 use Rattle.regs.specs.declared.answers.Reply.{Reply}
-use Rattle.regs.specs.declared.answers.Reply.TheVariants.{Answered, OutOfReadings, LogFull}
+use Rattle.regs.specs.declared.answers.Reply.TheVariants.{Answered}
 use Rattle.regs.specs.Left.{no_access, bytes_read, Untouched}
 use Rattle.regs.specs.Program as P
-use Rattle.regs.specs.Program.{if◌then◌else◌, Outcome, outcome, just}
+use Rattle.regs.specs.Program.{Outcome, outcome, just}
+use Rattle.std.specs.Prelude.{if◌then◌else◌}
 use Rattle.regs.proofs.Tests.{by_test}
-use Rattle.regs.proofs.Stores.{refuses, Whole, whole, none, Any}
+use Rattle.regs.proofs.Stores.{refuses, Whole, whole, none, any}
 use Rattle.regs.proofs.Quiet.{ends_late}
 use Rattle.regs.specs.Watched.{watched_from}
 use Rattle.master.specs.Driver.{reason_of}
@@ -30,7 +30,7 @@ use Rattle.master.specs.Calls.{Lent, Call, within_limits, arguments, buffer_in, 
 use Rattle.master.specs.Buffer.{most_codes, DataReceived, CodedReceived}
 use Rattle.master.proofs.Emits.{Does, after}
 use Rattle.master.proofs.Buffer.{Fills, Calls, write_still, read_filled, setup_opens, accepted, reads_in, received}
-use Rattle.master.proofs.WatchedStores.{everywhere, watched_opens, Front, front_left}
+use Rattle.master.proofs.WatchedStores.{watched_opens, Front, front_left}
 use Rattle.master.proofs.Longer.{room_lent}
 
 -- ---- the longer transfer
@@ -104,7 +104,7 @@ pub record LeftCoded (codes : ℕ) (before : List ℕ) (o : Outcome (Unit {0}) R
 
 left_front : (before more : List ℕ) (o p : Outcome (Unit {0}) Reply)
     → Front (length before) o p
-    → Whole none Any (before ++ more) tt p
+    → Whole none any (before ++ more) tt p
     → LeftCoded (length more) before o
 left_front before more o p f w =
     let r = received (before ++ more) p w in
@@ -145,7 +145,7 @@ module _ (mode : Mode) (address : ℕ) (lent : Lent) (n room : ℕ) (rs : List �
       left_front before more _ _
       (front_left (coder address os) (length before) (λ i. ap (ltb i) (sym size)) longer [] room rs before (before ++ more) tt
       (sym (take-append_seam before more)))
-      (whole none Any (λ _. tt) (λ _. tt)
+      (whole none any (λ _. tt) (λ _. tt)
       (watched_opens (coder address os) (λ log a h. tested_late (is_right address os (bytes_read log)) a h)
       (longer_opens mode (restarts (arguments lent)) address (with_code 0 os) (room_of os + length more) n (one_longer os)) [])
       room rs (before ++ more) long)

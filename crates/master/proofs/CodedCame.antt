@@ -4,7 +4,7 @@ use Prim.Native.Nat.{ℕ, zero, suc, ◌/◌}
 use native.Mathlib.Omega.{arith}
 use mathlib.Core.Bool.{Bool, true, false, not}
 use mathlib.Core.List.{List, [], ◌∷◌}
-use mathlib.Core.Path.{◌≡◌, refl, sym, ap, subst, ◌∙◌}
+use mathlib.Core.Path.{◌≡◌, refl, ap, subst, ◌∙◌}
 use lib.Dec.{eqb, T}
 use lib.ListN.{length, set}
 use Rattle.regs.specs.declared.access.Entry.TheVariants.{Read, Write, Marked}
@@ -51,7 +51,7 @@ same_left (stores_alike {i = i} {v = v} l) room rs b = same_left l room rs (set 
 same_left cut_alike room rs b = refl
 same_left (late l) room rs b = same_left l room rs b
 
--- where nothing is to come Any more, no byte is read
+-- where nothing is to come any more, no byte is read
 none_read : {i : ℕ} {t : Does} → Spells nothing i t → (room : ℕ) (rs b : List ℕ) → bytes_read (after t room rs b).log ≡ []
 unfolding outcome
 none_read refused_spells room rs b = refl

@@ -1,11 +1,11 @@
 -- A transfer with a packet error code that has an empty operation: `EmptyRead` and `EmptyWrite` of specs/CodedLaws.antt.
 -- Both transfers do what is before the empty operation, `upto`, and watching changes nothing there (NoStop.antt).
-use Prim.Native.Nat.{ℕ, zero, suc, ◌+◌, ◌/◌, ◌≤◌, ◌<◌}
+use Prim.Native.Nat.{ℕ, zero, suc, ◌+◌, ◌/◌, ◌≤◌}
 use native.Mathlib.Omega.{arith}
-use mathlib.Core.Bool.{Bool, true, false, not, ◌&&◌, ◌||◌}
+use mathlib.Core.Bool.{Bool, true, false, not, ◌||◌}
 use mathlib.Core.List.{List, [], ◌∷◌, ◌++◌}
 use mathlib.Core.Path.{◌≡◌, refl, sym, ap, subst, ◌∙◌}
-use lib.Dec.{eqb, ltb, T}
+use lib.Dec.{eqb, T}
 use lib.ListN.{length, set}
 use borrow.Author.Tests.{lt-ltb}
 use Rattle.regs.specs.declared.access.Entry.{Entry}
@@ -21,7 +21,8 @@ use Rattle.regs.specs.Fields.{command_word}
 use Rattle.regs.specs.Left.{bytes_read}
 use Rattle.regs.specs.Log.{Each}
 use Rattle.regs.specs.Program as P
-use Rattle.regs.specs.Program.{if◌then◌else◌, when, Outcome, just, logged, outcome}
+use Rattle.regs.specs.Program.{when, Outcome, just, logged, outcome}
+use Rattle.std.specs.Prelude.{if◌then◌else◌}
 use Rattle.regs.specs.Watched.{watched_from}
 use Rattle.master.specs.Driver.{setup, reason_of}
 use Rattle.master.specs.Blocking.{read_blocking_internal}

@@ -1,11 +1,11 @@
 -- Calls with a packet error code meet demand 3's premises, computed; a code that is written makes the sequence that the
 -- same byte makes in a plain write, and without success the code on the bus may be wrong.
-use Prim.Native.Nat.{ℕ, ◌<◌}
+use Prim.Native.Nat.{ℕ}
 use native.Mathlib.Omega.{arith}
 use mathlib.Core.Bool.{true, false, xor}
 use mathlib.Core.Logic.{◌≢◌}
 use mathlib.Core.Path.{◌≡◌, refl}
-use mathlib.Core.List.{List, [], ◌∷◌}
+use mathlib.Core.List.{[], ◌∷◌}
 use Rattle.crc8.specs.Crc8.{after_bit, after_bits, after_byte, crc8_from, crc8}
 use Rattle.regs.specs.Fields.{set_field}
 use Rattle.regs.specs.Left.{bytes_read}

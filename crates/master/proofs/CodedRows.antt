@@ -1,12 +1,10 @@
 -- Computed: transfers with a packet error code, the code of a write after a read, a code that is right and one that is
 -- wrong, and what is refused.
 use Prim.Native.Nat.{ℕ}
-use mathlib.Core.Bool.{true, false, xor}
+use mathlib.Core.Bool.{xor}
 use mathlib.Core.Path.{◌≡◌, refl}
 use mathlib.Core.List.{List, [], ◌∷◌}
 use Rattle.crc8.specs.Crc8.{after_bit, after_bits, after_byte, crc8_from}
-use Rattle.regs.specs.declared.access.Entry.{Entry}
-use Rattle.regs.specs.declared.access.Entry.TheVariants.{Read, Write, Marked}
 use Rattle.regs.specs.declared.answers.Answer.{Answer}
 use Rattle.regs.specs.declared.answers.Answer.TheVariants.{Accepted, Refused}
 use Rattle.regs.specs.declared.answers.AbortReason.TheVariants.{NoAcknowledge}
@@ -23,7 +21,7 @@ use Rattle.master.specs.Driver.{setup, tx_fifo_capacity, tx_fifo_full, rx_fifo_l
 use Rattle.master.specs.Blocking.{read_blocking_bytes, read_blocking_internal, write_blocking_bytes, write_blocking_internal}
 use Rattle.master.specs.Async.{wait_stop_det, queue_batch, fetch_bytes, read_async_internal, fill, write_async_internal}
 use Rattle.master.specs.Operations.{writes, reads, Mode, blocking, async}
-use Rattle.master.specs.Operations.{Transfer, read, write, write_read, transaction}
+use Rattle.master.specs.Operations.{Transfer, read, write, transaction}
 use Rattle.master.specs.Sequence.{joined, sequence_from}
 use Rattle.master.specs.Coded.{message, with_code, room_of, ends_in_read, each_coded, longer_transfer, coded}
 

@@ -1,8 +1,8 @@
--- The code of a last read is tested: `CodeTested` of specs/CodedLaws.antt, from `as-longer` and `all-came`.
+-- The code of a last read is tested: `CodeTested` of specs/CodedLaws.antt, from `as_longer` and `all_came`.
 use Prim.Native.Nat.{ℕ, zero, suc}
-use mathlib.Core.Bool.{Bool, true, false, not, ◌||◌}
+use mathlib.Core.Bool.{Bool, true, not, ◌||◌}
 use mathlib.Core.List.{List, [], ◌∷◌}
-use mathlib.Core.Path.{◌≡◌, refl, sym, ap, subst, ◌∙◌}
+use mathlib.Core.Path.{◌≡◌, refl, ap, subst, ◌∙◌}
 use lib.Dec.{eqb, T}
 use lib.ListN.{length, get_or}
 use Rattle.regs.specs.declared.access.Entry.{Entry}
@@ -11,10 +11,10 @@ use Rattle.regs.specs.declared.answers.Refusal.TheVariants.{WrongPacketErrorCode
 use Rattle.regs.specs.declared.answers.Reply.{Reply}
 use Rattle.regs.specs.declared.answers.Reply.TheVariants.{Answered}
 use Rattle.regs.specs.Left.{bytes_read}
-use Rattle.regs.specs.Program.{if◌then◌else◌, Outcome}
-use Rattle.master.specs.Operations.{Operation, writes, reads, Mode, Transfer, read, write, write_read, transaction, operations_of}
+use Rattle.std.specs.Prelude.{if◌then◌else◌}
+use Rattle.master.specs.Operations.{Operation, writes, reads, Transfer, read, write, write_read, transaction, operations_of}
 use Rattle.master.specs.Coded.{code_of, with_code, room_of, ends_in_read, is_right}
-use Rattle.master.specs.CodedLaws.{coded_left, plain_left, longer_form, tested_reply, ReadTested, CodeTested}
+use Rattle.master.specs.CodedLaws.{coded_left, plain_left, longer_form, tested_reply, CodeTested}
 use Rattle.master.proofs.AsLonger.{as_longer}
 use Rattle.master.proofs.CodedCame.{all_came}
 

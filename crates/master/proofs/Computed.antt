@@ -79,7 +79,7 @@ pub record Corners : Type 0 where
   -- an async write that fills the FIFO exactly goes round once more, and then leaves both loops
   pub exact_fill : Makes (left async 0x50 (write (0x11 ∷ 0x22 ∷ [])) (14 ∷ 0 ∷ 16 ∷ 0 ∷ 0 ∷ 15 ∷ 15 ∷ 0 ∷ 0x200 ∷ 0 ∷ []))
       (START ∷ address_byte 0xA0 ∷ written 0x11 ∷ written 0x22 ∷ STOP ∷ [])
-  -- a write_read, and the transaction of the same
+  -- a write-read, and the transaction of the same
   pub write_read_pair : Makes (left blocking 0x50 (write_read (0x11 ∷ []) 2) (0x10 ∷ 0 ∷ 16 ∷ 3 ∷ 0 ∷ 0 ∷ 1 ∷ 0xAA ∷ 0 ∷ 1 ∷ 0xBB ∷ []))
       (START ∷ address_byte 0xA0 ∷ written 0x11 ∷ RESTART ∷ address_byte 0xA1 ∷ read_slot ∷ read_slot ∷ STOP ∷ [])
   pub transaction_pair : Makes

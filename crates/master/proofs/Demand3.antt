@@ -1,4 +1,4 @@
--- Demand 3, proved: `same-sequence`, with `sequence-of-call`, `told-by-call` and `code-on-the-bus` (specs/Demand3.antt has
+-- Demand 3, proved: `same_sequence`, with `sequence_of_call`, `told_by_call` and `code_on_the_bus` (specs/Demand3.antt has
 -- the statements). A call that succeeds leaves the log of a plain transfer on the operations that it makes (`AsTransfer`).
 use Prim.Native.Nat.{ℕ, zero, suc, ◌+◌, ◌/◌, ◌≤◌, ◌<◌}
 use native.Mathlib.Omega.{arith}
@@ -20,7 +20,8 @@ use Rattle.regs.specs.Answers.{number}
 use Rattle.regs.specs.Registers.{TAR, DATA_CMD, RXFLR, ENABLE}
 use Rattle.regs.specs.Fields.{address_field, cmd, level}
 use Rattle.regs.specs.Program as P
-use Rattle.regs.specs.Program.{if◌then◌else◌, exit, when, ends, Outcome, outcome}
+use Rattle.regs.specs.Program.{exit, when, ends, Outcome, outcome}
+use Rattle.std.specs.Prelude.{if◌then◌else◌}
 use Rattle.regs.specs.Left.{bytes_read}
 use Rattle.regs.specs.Log.{Each, expected, written_to}
 use Rattle.regs.proofs.Tests.{by_test}
@@ -101,7 +102,7 @@ module _ (a n : ℕ) (p : Does) (rs b due : List ℕ) (issues : Emits p 0 0 due)
   unfolding setup
   set_up room = set_up_if (ltb a 0x80) (λ e. let h : a < 0x80 = ltb-true a 0x80 e in omega arith) room
 
--- the plain read and write_read set the RESTART flag
+-- the plain read and write-read set the RESTART flag
 abbrev flagged : Transfer ℕ → Bool
 flagged (read len) = true
 flagged (write bytes) = true

@@ -22,7 +22,8 @@ use Rattle.regs.specs.declared.answers.Reply.TheVariants.{Answered, LogFull, Out
 use Rattle.regs.specs.Answers.{number}
 use Rattle.regs.specs.Registers.{TAR, DATA_CMD, RXFLR}
 use Rattle.regs.specs.Fields.{level}
-use Rattle.regs.specs.Program.{if◌then◌else◌, Behaviour, ends, reads, writes, marks, stores, asks, keeps, cut, Outcome, outcome}
+use Rattle.regs.specs.Program.{Behaviour, ends, reads, writes, marks, stores, asks, keeps, cut, Outcome, outcome}
+use Rattle.std.specs.Prelude.{if◌then◌else◌}
 use Rattle.regs.specs.Log.{written_to}
 use Rattle.master.specs.Demand3.{taken_by, issued_by}
 

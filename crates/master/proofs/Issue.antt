@@ -12,7 +12,8 @@ use Rattle.regs.specs.Registers.{DATA_CMD}
 use Rattle.regs.specs.Fields.{cmd, command_word, level}
 use Rattle.regs.specs.Log.{Each}
 use Rattle.regs.specs.Program as P
-use Rattle.regs.specs.Program.{if◌then◌else◌, ◌>>=◌, done, by_turn, rounds, pending, ready, polled, ok, err}
+use Rattle.regs.specs.Program.{◌>>=◌, done, by_turn, rounds, pending, ready, polled, ok, err}
+use Rattle.std.specs.Prelude.{if◌then◌else◌}
 use Rattle.master.specs.Driver.{Driver, Tried, try, rx_fifo_len, reason_of}
 use Rattle.master.specs.Blocking.{read_blocking_bytes, read_blocking_internal, write_blocking_bytes, write_blocking_internal}
 use Rattle.master.specs.Async.{is_empty, queue_batch, batch_come, batch_poll, stop_poll, wait_stop_det}
@@ -26,6 +27,7 @@ use Rattle.master.proofs.Emits.{Does, Emits}
 use Rattle.master.proofs.Quiet.{Quiet, emits_if, emits_when, quiet_while, quiet_while_test, quiet_wait_on}
 use Rattle.master.proofs.Quiet.{quiet_capacity, quiet_full, quiet_len, quiet_abort, quiet_try}
 use Rattle.master.proofs.Quiet.{quiet_space_poll, quiet_stop_poll, quiet_wait_stop_det}
+use Rattle.master.proofs.Masks.{batch_masks, space_masks, stop_masks}
 
 -- one word
 
@@ -161,7 +163,7 @@ module _ (offset len : ℕ) (restart stop : Bool) (rest : List ℕ) (n : ℕ) (k
   rounds_read (suc left) (suc r) i fits = rw (lt-ltb 0 (suc r) (omega arith)) (quiet_capacity n _ i i _ (λ space.
       let batch : ℕ = min (suc r) space in
       queued len restart stop rest n _ i batch (suc r) i (omega arith) fits
-      (batch_waited batch (i + batch) i _ n _ (λ n k i t due h. (refl, λ v _. (refl, h tt))) _ (λ reason. aborted reason _ _ _)
+      (batch_waited batch (i + batch) i _ n (batch_masks batch) (λ n k i t due h. (refl, λ v _. (refl, h tt))) _ (λ reason. aborted reason _ _ _)
       (λ v whole possible.
       let e : min v (suc r) ≡ batch = omega arith in
       rw e (fetched n _ (i + batch) _ batch _ i (rounds_read left (suc r - batch) (i + batch) (omega arith)))) n)))
@@ -190,7 +192,7 @@ module _ (stop : Bool) (rest : List ℕ) (n j : ℕ) where
     unfolding rounds
     rounds_written zero bs small = tt
     rounds_written (suc left) bs small = quiet_capacity n _ j j _ (λ space. filled _ ended (λ cs small.
-        quiet_wait_on tt (λ _. (space_poll reason_of)) _ (λ _. quiet_space_poll) (λ n k i t due h. (refl, λ v _. (refl, h tt)))
+        quiet_wait_on tt (λ _. (space_poll reason_of)) space_masks (λ _. quiet_space_poll) (λ n k i t due h. (refl, λ v _. (refl, h tt)))
         n _ j j _ (gone_on cs (rounds_written left cs small))) space bs small)
       where
         gone_on : (cs : List ℕ) → Emits (rounds left n (xmit reason_of stop) cs k) j j (write_words stop cs ++ rest)
@@ -204,7 +206,7 @@ abort_refused : (reason : AbortReason) (stop : Bool) (n : ℕ) (k : Unit {0} →
     → Emits (wait_stop_det reason_of (err reason) stop n (λ res. try res n k)) i t due
 unfolding wait_stop_det
 abort_refused reason stop n k i t due =
-    quiet_wait_on tt (λ _. stop_poll reason_of (err reason)) _ (λ _. quiet_stop_poll (err reason))
+    quiet_wait_on tt (λ _. stop_poll reason_of (err reason)) stop_masks (λ _. quiet_stop_poll (err reason))
     (λ n k i t due h v _. (refl, h tt)) n _ i t due (λ res v _. tt)
 
 -- both modes together

@@ -6,7 +6,7 @@ use mathlib.Core.List.{List, [], ◌∷◌}
 use lib.Dec.{eqb}
 use lib.ListN.{take, drop}
 use Rattle.regs.specs.declared.answers.Answer.{Answer}
-use Rattle.regs.specs.Program.{if◌then◌else◌}
+use Rattle.std.specs.Prelude.{if◌then◌else◌}
 use Rattle.regs.specs.Log.{Each}
 use Rattle.master.specs.Driver.{Driver, reason_of}
 use Rattle.master.specs.Operations.{writes, reads, Transfer}

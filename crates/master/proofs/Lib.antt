@@ -1,8 +1,9 @@
 -- What is proved about the master's definitions alone.
 --     Accesses                 every access of every call is legal, TAR is written while the block is disabled, and
 --                              no refusal is TxNotEmpty
+--     Masks                    what the async waits unmask, for the lemmas over `wait_on`
 --     Computed                 a sequence alone, corners of the Rust and number 20, computed
---     Demand3                  `same-sequence`, by Emits, Quiet, Issue (each function writes its words), Words,
+--     Demand3                  `same_sequence`, by Emits, Quiet, Issue (each function writes its words), Words,
 --                              Sequence (words make the sequence), Told (it tells back), Lent (a call is a transfer
 --                              within its limits), Accesses (its log reads back), Longer (operations with a code
 --                              behind them), AsLonger and Message (a message with its code behind it)
@@ -20,6 +21,7 @@
 --     CodedTested              the code of a last read is tested, by CodedCame (all data and the code came)
 --     Buffer, BufferCoded      every byte read is stored at the next place of the buffer, whatever the answer; of a
 --                              coded call, every byte but the code, by WatchedStores
+pub mod Masks
 pub mod Accesses
 pub mod Computed
 pub mod CodedRows

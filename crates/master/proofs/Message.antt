@@ -3,14 +3,13 @@ use Prim.Native.Nat.{ℕ, zero, suc, ◌+◌, ◌<◌}
 use native.Mathlib.Omega.{arith}
 use mathlib.Core.Path.{◌≡◌, refl, ap, sym, ◌∙◌}
 use mathlib.Core.Logic.{◌≢◌}
-use mathlib.Core.Bool.{Bool, true, false, not, ◌||◌}
+use mathlib.Core.Bool.{true, false}
 use mathlib.Core.List.{List, [], ◌∷◌, ◌++◌, map, append_assoc, append-nil}
-use lib.Dec.{eqb}
 use lib.ListN.{get_or, replicate}
 use borrow.Author.Tests.{eqb-true}
 use Rattle.crc8.specs.Crc8.{crc8_from, crc8}
 use Rattle.crc8.proofs.Laws.{is_byte, in_parts, residue}
-use Rattle.regs.specs.Program.{if◌then◌else◌}
+use Rattle.std.specs.Prelude.{if◌then◌else◌}
 use Rattle.regs.specs.Log.{Each}
 use Rattle.regs.proofs.Tests.{by_test}
 use Rattle.bus.specs.declared.Direction.{Direction}

@@ -3,11 +3,9 @@
 use Prim.Native.Nat.{ℕ, zero, suc, ◌+◌, ◌*◌}
 use mathlib.Core.List.{List, [], ◌∷◌, ◌++◌, map, append_assoc}
 use mathlib.Core.Path.{◌≡◌, refl, sym, ap, ◌∙◌}
-use lib.Dec.{eqb}
 use lib.ListN.{take, drop, replicate}
 use lib.Seq.{take-nil, drop-nil, take-add, drop-drop}
-use Rattle.regs.specs.Program.{if◌then◌else◌}
-use Rattle.bus.specs.Bus.{Sign, START, RESTART, written, read_slot}
+use Rattle.bus.specs.Bus.{Sign, RESTART, written, read_slot}
 use Rattle.master.specs.Operations.{Operation, writes, reads, READ, WRITE}
 use Rattle.master.specs.Sequence.{joined_to, joined, sequence_from, sequence}
 use Rattle.master.specs.Coded.{message}

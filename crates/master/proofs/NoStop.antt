@@ -19,7 +19,8 @@ use Rattle.regs.specs.Registers.{DATA_CMD}
 use Rattle.regs.specs.Fields.{command_word, cmd, stop}
 use Rattle.regs.specs.Log.{Each}
 use Rattle.regs.specs.Program as P
-use Rattle.regs.specs.Program.{if◌then◌else◌, when, turns, Turn, again, done, by_turn, rounds, Poll, pending, ready, polled, ok, err}
+use Rattle.regs.specs.Program.{when, turns, Turn, again, done, by_turn, rounds, Poll, pending, ready, polled, ok, err}
+use Rattle.std.specs.Prelude.{if◌then◌else◌}
 use Rattle.master.specs.Driver.{Driver, Tried, try, while_turn, setup, tx_fifo_capacity, tx_fifo_full, rx_fifo_len, reason_of}
 use Rattle.master.specs.Driver.{read_and_clear_abort_reason}
 use Rattle.master.specs.Blocking.{read_blocking_bytes, read_blocking_internal, write_blocking_bytes, write_blocking_internal}

@@ -5,7 +5,8 @@ use mathlib.Core.Bool.{Bool, true, false}
 use mathlib.Core.List.{List}
 use lib.Dec.{eqb}
 use Rattle.regs.specs.Registers.{DATA_CMD}
-use Rattle.regs.specs.Program.{if◌then◌else◌, when, turns, while, Turn, again, done, by_turn, rounds, loop, Poll}
+use Rattle.regs.specs.Program.{when, turns, while, Turn, again, done, by_turn, rounds, loop, Poll}
+use Rattle.std.specs.Prelude.{if◌then◌else◌}
 use Rattle.regs.specs.Program.{pending, ready, polled, wait_on, ok, err}
 use Rattle.master.specs.Driver.{Driver, Tried, try, while_turn, while_test, tx_fifo_capacity, tx_fifo_full, reason_of}
 use Rattle.master.specs.Driver.{rx_fifo_len, read_and_clear_abort_reason}

@@ -18,7 +18,8 @@ use Rattle.regs.specs.Registers.{DATA_CMD}
 use Rattle.regs.specs.Fields.{command_word, cmd, stop, dat}
 use Rattle.regs.specs.Left.{bytes_read}
 use Rattle.regs.specs.Program as P
-use Rattle.regs.specs.Program.{if◌then◌else◌, Program, outcome, just, logged}
+use Rattle.regs.specs.Program.{Program, outcome, just, logged}
+use Rattle.std.specs.Prelude.{if◌then◌else◌}
 use Rattle.regs.specs.Steps.{Machine, SteppedAs}
 use Rattle.regs.specs.Watched.{watched_from, watched}
 use Rattle.regs.specs.Inner.Summed.{summed_machine, SumOf}

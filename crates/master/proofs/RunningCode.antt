@@ -13,7 +13,7 @@ use Rattle.crc8.specs.Crc8.{after_byte, crc8_from}
 use Rattle.crc8.proofs.Laws.{is_byte, residue, only_residue}
 use Rattle.regs.specs.declared.access.Entry.{Entry}
 use Rattle.regs.specs.Fields.{command_word, cmd, stop, dat}
-use Rattle.regs.specs.Program.{if◌then◌else◌}
+use Rattle.std.specs.Prelude.{if◌then◌else◌}
 use Rattle.regs.proofs.Tests.{by_test}
 use Rattle.master.specs.Operations.{Operation, writes, reads, READ, WRITE}
 use Rattle.master.specs.Coded.{code_of, room_of, ends_in_read, is_right}

@@ -7,7 +7,7 @@ use mathlib.Core.Bool.{Bool, true, false, not, ◌&&◌, and-false, and-true}
 use mathlib.Core.List.{List, [], ◌∷◌, ◌++◌, map, append_assoc}
 use lib.Dec.{eqb-suc-zero}
 use lib.ListN.{replicate, replicate-append-replicate}
-use Rattle.regs.specs.Program.{if◌then◌else◌}
+use Rattle.std.specs.Prelude.{if◌then◌else◌}
 use Rattle.regs.specs.Fields.{stop, restart, command_word}
 use Rattle.regs.specs.Log.{Each}
 use Rattle.bus.specs.declared.Direction.{Direction}

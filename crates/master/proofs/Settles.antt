@@ -1,6 +1,6 @@
 -- `settles`: a watched transfer leaves what the longer operations leave by themselves, settled by their last access to
 -- DATA_CMD, as `Settles` of specs/Inner/Settled.antt says. By what a behaviour spells (Spells.antt).
---     quiet_left     where nothing is to come Any more, only the answer is tested
+--     quiet_left     where nothing is to come any more, only the answer is tested
 --     spelled        while the code is to come
 use Prim.Native.Nat.{ℕ, zero, suc, ◌/◌, ◌<◌}
 use native.Mathlib.Omega.{arith}
@@ -18,7 +18,8 @@ use Rattle.regs.specs.Registers.{DATA_CMD}
 use Rattle.regs.specs.Fields.{command_word, cmd, stop, dat}
 use Rattle.regs.specs.Left.{bytes_read}
 use Rattle.regs.specs.Log.{Each, expected}
-use Rattle.regs.specs.Program.{if◌then◌else◌, ends, stores, Outcome, outcome, logged}
+use Rattle.regs.specs.Program.{ends, stores, Outcome, outcome, logged}
+use Rattle.std.specs.Prelude.{if◌then◌else◌}
 use Rattle.regs.specs.Watched.{watched_from, watched}
 use Rattle.regs.proofs.Watched.{set_beyond}
 use Rattle.master.specs.Driver.{Driver, reason_of}
@@ -254,7 +255,7 @@ whole address [] {t} s room rs b size =
 whole address (o ∷ os) s room rs b size =
     spelled address (o ∷ os) s [] room rs b (record { size = size; front = refl; left = omega arith; last = refl })
 
--- of Any operations, with and without RESTART
+-- of any operations, with and without RESTART
 module _ (mode : Mode) (restart : Bool) (address : ℕ) (os : List (Operation ℕ)) (log readings buffer : List ℕ) where
   abbrev longer_one : Driver Answer
   longer_one = longer_transfer reason_of mode restart address (with_code 0 os)

@@ -1,6 +1,6 @@
 -- What a behaviour that spells operations and their code (Spells.antt) leaves, as `settles` needs it (Settles.antt).
 --     right_behind                a byte that came past the data is tested against the code over the data
---     quiet_log, quiet_buffer     where nothing is to come Any more, no access to DATA_CMD follows and no store
+--     quiet_log, quiet_buffer     where nothing is to come any more, no access to DATA_CMD follows and no store
 --     open_left                   while the code is to come it is not accepted, or an access to DATA_CMD follows
 --     pushed                      an entry before an outcome that is settled
 --     Held                        what is known of the buffer with so many operations left
@@ -21,7 +21,8 @@ use Rattle.regs.specs.declared.answers.Reply.TheVariants.{Answered, LogFull, Out
 use Rattle.regs.specs.Registers.{DATA_CMD}
 use Rattle.regs.specs.Fields.{command_word, cmd, stop, dat}
 use Rattle.regs.specs.Left.{bytes_read}
-use Rattle.regs.specs.Program.{if◌then◌else◌, stores, Outcome, outcome, logged}
+use Rattle.regs.specs.Program.{stores, Outcome, outcome, logged}
+use Rattle.std.specs.Prelude.{if◌then◌else◌}
 use Rattle.master.specs.Operations.{Operation, writes, reads, READ, WRITE}
 use Rattle.master.specs.Coded.{code_of, room_of, ends_in_read, is_right}
 use Rattle.master.specs.CodedLaws.{tested_reply}
@@ -60,7 +61,7 @@ right_behind address os b x e last =
     ap (λ (q : Bool). not q || eqb (get_or (b ++ x ∷ []) (room_of os) 0) (code_of address os (b ++ x ∷ []))) last
     ∙ ap₂ eqb (get_or_at b x [] 0 (room_of os) e) (code_front address os b (x ∷ []) e)
 
--- ---- where nothing is to come Any more
+-- ---- where nothing is to come any more
 
 pub quiet_log : {i : ℕ} {t : Does} → Spells nothing i t → (room : ℕ) (rs b : List ℕ) → last_data (after t room rs b).log ≡ none
 unfolding outcome last_data

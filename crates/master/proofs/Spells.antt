@@ -1,7 +1,7 @@
 -- What a behaviour of the driver spells: the bytes of operations in order, each one that is read stored at the next place
 -- of the buffer, and then the code. They are found along the driver's text, as in Alike.antt.
 --     Spells c i t     with c to come and i bytes read before, t makes no other access to DATA_CMD than those of c, in
---                      order, and words that ask for bytes; and it is accepted only where nothing is to come Any more
+--                      order, and words that ask for bytes; and it is accepted only where nothing is to come any more
 use Prim.Native.Nat.{ℕ, suc, ◌<◌}
 use mathlib.Core.Bool.{true, false}
 use mathlib.Core.List.{List, [], ◌∷◌}

@@ -1,4 +1,4 @@
--- `spells-longer`: the longer transfer of a coded call spells its operations (Spells.antt), function by function. The parts
+-- `spells_longer`: the longer transfer of a coded call spells its operations (Spells.antt), function by function. The parts
 -- that neither take nor send a byte are in Calm.antt.
 --     Untaken os m c   of a read that os follow, m bytes are still to be taken, the code with them, and c is to come
 --     Unsent os bs c   of a write that os follow, bs are still to be sent, 0 for the code with them, and c is to come

@@ -1,8 +1,8 @@
 -- What a watched program stores: the bytes of the program itself (regs/proofs/Stores.antt), but for those that have no place in a
 -- shorter buffer. So its outcome is that of the program on a longer buffer, whose front is the shorter one.
 use Prim.Native.Nat.{ℕ, zero, suc}
-use mathlib.Core.Bool.{Bool, true, false, not}
-use mathlib.Core.List.{List, [], ◌∷◌, ◌++◌}
+use mathlib.Core.Bool.{true, not}
+use mathlib.Core.List.{List, [], ◌∷◌}
 use mathlib.Core.Path.{◌≡◌, refl, sym, ap, ◌∙◌}
 use lib.Dec.{ltb, T}
 use lib.ListN.{take, set}
@@ -18,7 +18,7 @@ use Rattle.regs.specs.declared.answers.Reply.{Reply}
 use Rattle.regs.specs.declared.answers.Reply.TheVariants.{Answered, LogFull, OutOfReadings}
 use Rattle.regs.proofs.Tests.{by_test}
 use Rattle.regs.proofs.Stores.{Stores, ends_stores, reads_stores, data_stores, writes_stores, marks_stores, store_stores}
-use Rattle.regs.proofs.Stores.{asks_stores, keeps_stores, cut_stores, Late, Opens, refuses, asks_opens, begins, Any}
+use Rattle.regs.proofs.Stores.{asks_stores, keeps_stores, cut_stores, Late, Opens, refuses, asks_opens, begins, any}
 
 -- the same watcher with a place for every byte
 abbrev pub everywhere : Watcher → Watcher
@@ -28,8 +28,8 @@ everywhere O = record { value = O.value; told = O.told; has_place = λ i. true }
 
 module _ {S : Type 0} {kept : S → List ℕ} (O : Watcher)
     (later : (log : List Entry) (a : Answer) → T (not (no_access (Answered a))) → T (not (no_access (Answered (O.told log a))))) where
-  watched_stores : {L i : ℕ} {w : List ℕ} {me : S} {t : Behaviour S Answer} → Stores kept (Late Any) L i w me t → (log : List Entry)
-      → Stores kept (Late Any) L i w me (watched_from (everywhere O) ends log t)
+  watched_stores : {L i : ℕ} {w : List ℕ} {me : S} {t : Behaviour S Answer} → Stores kept (Late any) L i w me t → (log : List Entry)
+      → Stores kept (Late any) L i w me (watched_from (everywhere O) ends log t)
   unfolding watched_from
   watched_stores (ends_stores {a = a} e y) log = ends_stores e (later log a y.0, tt)
   watched_stores (reads_stores q e h) log = reads_stores q e (λ v. watched_stores (h v) _)
@@ -41,9 +41,9 @@ module _ {S : Type 0} {kept : S → List ℕ} (O : Watcher)
   watched_stores (keeps_stores h) log = keeps_stores (watched_stores h log)
   watched_stores (cut_stores e) log = cut_stores e
 
-  pub watched_opens : {L : ℕ} {me : S} {t : Behaviour S Answer} → Opens kept Any L me t
+  pub watched_opens : {L : ℕ} {me : S} {t : Behaviour S Answer} → Opens kept any L me t
       → (log : List Entry)
-      → Opens kept Any L me (watched_from (everywhere O) ends log t)
+      → Opens kept any L me (watched_from (everywhere O) ends log t)
   unfolding watched_from
   watched_opens (refuses y) log = refuses tt
   watched_opens (asks_opens h) log = asks_opens (watched_opens h log)

@@ -1,6 +1,6 @@
--- `reasons-by-word`, `same-but-reasons` and `beside-rust`: the words for which this driver's reasons differ from the Rust's,
+-- `reasons_by_word`, `same_but_reasons` and `beside_rust`: the words for which this driver's reasons differ from the Rust's,
 -- and that nothing else of a call does. A call with two reasons is twins (TwinParts.antt), also where it is watched for
--- its packet error code; `twin-left` of Twins.antt says what they leave.
+-- its packet error code; `twin_left` of Twins.antt says what they leave.
 use Prim.Native.Nat.{ℕ, suc, ◌+◌, ◌/◌}
 use mathlib.Core.Bool.{Bool, true, false, not, ◌&&◌, ◌||◌}
 use mathlib.Core.List.{List, [], ◌∷◌}
@@ -15,7 +15,8 @@ use Rattle.regs.specs.declared.answers.Refusal.TheVariants.{Abort}
 use Rattle.regs.specs.declared.answers.Reply.{Reply}
 use Rattle.regs.specs.declared.answers.Reply.TheVariants.{Answered}
 use Rattle.regs.specs.Fields.{no_acknowledge, txdata_noack, arb_lost}
-use Rattle.regs.specs.Program.{if◌then◌else◌, ends, Outcome}
+use Rattle.regs.specs.Program.{ends, Outcome}
+use Rattle.std.specs.Prelude.{if◌then◌else◌}
 use Rattle.regs.specs.Log.{expected}
 use Rattle.regs.specs.Watched.{watched_from}
 use Rattle.regs.proofs.Tests.{false_true}

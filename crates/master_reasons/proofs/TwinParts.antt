@@ -8,7 +8,8 @@ use lib.ListN.{length}
 use borrow.Author.Tests.{eqb-true}
 use Rattle.regs.specs.Registers.{INTR_MASK, RAW_INTR_STAT, CLR_TX_ABRT, CLR_STOP_DET}
 use Rattle.regs.specs.Fields.{tx_empty, stop_det, set_m_tx_abrt, set_m_stop_det}
-use Rattle.regs.specs.Program.{if◌then◌else◌, ◌>>=◌, ◌>>◌, return, get, modify, skip, when, while, Turn, again}
+use Rattle.regs.specs.Program.{◌>>=◌, ◌>>◌, return, get, modify, skip, when, while, Turn, again}
+use Rattle.std.specs.Prelude.{if◌then◌else◌}
 use Rattle.regs.specs.Program.{done, rounds, Poll, pending, ready, polled, ok, err}
 use Rattle.master.specs.Driver.{Driver, Reasons, Tried, is_err, try, while_turn, setup, tx_fifo_capacity, tx_fifo_full, rx_fifo_len}
 use Rattle.master.specs.Driver.{read_and_clear_abort_reason}
@@ -28,7 +29,7 @@ use Rattle.master_reasons.proofs.Twins.{TellsP, if_program, when_twin, turns_twi
 abbrev await_stop : Driver (Unit {0})
 await_stop = while RAW_INTR_STAT (λ stat. not (stop_det stat)) skip >> (get CLR_STOP_DET >> skip)
 
--- what `stop-poll` does with what it read
+-- what `stop_poll` does with what it read
 abbrev stop_after : Tried (Unit {0}) → Tried (Unit {0}) → Driver (Poll (Unit {0}) (Tried (Unit {0})))
 stop_after had_abort abort =
     if not (is_err had_abort) && is_err abort
@@ -109,6 +110,8 @@ module _ (f g : Reasons) where
       → Goes f g (λ r. try r n k) (λ r. try r n l)
   try_goes n k l h w (ok a) (ok b) fine = h a
   try_goes n k l h w (err a) (err b) (failed q) = abort_twin q
+  try_goes {B = B} n k l h w (ok a) (err b) x'' = elim x'' [ ]
+  try_goes {B = B} n k l h w (err a) (ok b) x3 = elim x3 [ ]
 
   abort_or_on : SameAt f g 0 (λ n k. read_and_clear_abort_reason f n (λ r. try r n k))
       (λ n k. read_and_clear_abort_reason g n (λ r. try r n k))
@@ -133,6 +136,8 @@ module _ (f g : Reasons) where
   byte_goes n closes k l h w (err a) (err b) (failed q) =
       turns_twin n n RAW_INTR_STAT (λ stat. not (stop_det stat)) skip _ _ refl (λ n k l h. h tt)
       (λ _. reads_twin refl (λ _. abort_twin q))
+  byte_goes n closes k l h w (ok a) (err b) x'' = elim x'' [ ]
+  byte_goes n closes k l h w (err a) (ok b) x3 = elim x3 [ ]
 
   bytes_written_same : (len : ℕ) (stop : Bool) (bytes : List ℕ) (i : ℕ)
       → SameAt f g 0 (write_blocking_bytes f len stop i bytes) (write_blocking_bytes g len stop i bytes)
@@ -198,11 +203,15 @@ module _ (f g : Reasons) where
   polls_first n i j more come w (ok a) (ok b) fine =
       reads_twin refl (λ stat. stop_seen 0 i j more (come 0 (ok tt) (ok tt) fine) (stop_det stat) n)
   polls_first n i j more come w (err a) (err b) (failed q) = come w (err (f w)) (err (g w)) (failed q)
+  polls_first n i j more come w (ok a) (err b) x'' = elim x'' [ ]
+  polls_first n i j more come w (err a) (ok b) x3 = elim x3 [ ]
 
   both_goes : {k l : Tried (Unit {0}) → Does} (w : ℕ) (a b : Tried (Unit {0})) → Tells f g w a b → Goes f g k l
       → Twin f g w (k (both (ok tt) a)) (l (both (ok tt) b))
   both_goes w (ok a) (ok b) fine h = h 0 (ok a) (ok b) fine
   both_goes w (err a) (err b) (failed q) h = h w (err a) (err b) (failed q)
+  both_goes {k = k} {l = l} w (ok a) (err b) x4 h = elim x4 [ ]
+  both_goes {k = k} {l = l} w (err a) (ok b) x4 h = elim x4 [ ]
 
   stop_goes : (do_stop : Bool) (n : ℕ) (k l : Tried (Unit {0}) → Does) → Goes f g k l
       → Goes f g (λ r. wait_stop_det f r do_stop n k) (λ r. wait_stop_det g r do_stop n l)
@@ -219,6 +228,9 @@ module _ (f g : Reasons) where
       ((if stop_det stat then return (ready (ok tt)) else return (pending tt)) n j) = λ stat. stop_seen w i j more come (stop_det stat) n in
       abort_again w n _ _ q (reads_twin refl seen) (λ v. reads_twin refl seen))
       (reads_twin refl (λ _. h w (err (f w)) (err (g w)) (failed q))) n
+  stop_goes false n k l h w (ok a) (err b) x4 = elim x4 [ ]
+  stop_goes true n k l h w (ok a) (err b) x5 = elim x5 [ ]
+  stop_goes do_stop n k l h w (err a) (ok b) x3 = elim x3 [ ]
 
   -- a `loop` whose result tells a word
   rounds_tells : (X : Type 0) {B : Type 0} (p q : X → Driver (Turn X (Tried B))) (n : ℕ) (k l : Tried B → Does)
@@ -245,6 +257,8 @@ module _ (f g : Reasons) where
     batch_goes : (rxfifo : ℕ) → Goes f g (λ abort. i (batch_come batch rxfifo abort)) (λ abort. j (batch_come batch rxfifo abort))
     batch_goes rxfifo w (ok a) (ok b) fine = came rxfifo (not (ltb rxfifo batch))
     batch_goes rxfifo w (err a) (err b) (failed q) = come w (err (f w)) (err (g w)) (failed q)
+    batch_goes rxfifo w (ok a) (err b) x'' = elim x'' [ ]
+    batch_goes rxfifo w (err a) (ok b) x3 = elim x3 [ ]
 
     batch_polls : Twin f g 0 (batch_poll f batch n i) (batch_poll g batch n j)
     batch_polls = len_same n _ _ (λ rxfifo. abort_tells n _ _ (batch_goes rxfifo))
@@ -256,6 +270,8 @@ module _ (f g : Reasons) where
         → Goes f g (λ res. take_batch offset len remaining queue res n i) (λ res. take_batch offset len remaining queue res n j)
     take_goes remaining queue w (ok a) (ok b) fine = fetch_same _ _ n _ _ (λ _. next _)
     take_goes remaining queue w (err a) (err b) (failed q) = last w (err (f w)) (err (g w)) (failed q)
+    take_goes remaining queue w (ok a) (err b) x'' = elim x'' [ ]
+    take_goes remaining queue w (err a) (ok b) x3 = elim x3 [ ]
 
     read_rounds : (counts : Counts)
         → Twin f g 0 (read_round f offset len restart stop counts n i) (read_round g offset len restart stop counts n j)
@@ -286,6 +302,8 @@ module _ (f g : Reasons) where
     space_goes w (ok a) (ok b) fine =
         full_same n _ _ (λ no_space. stop_seen 0 i j more (come 0 (ok tt) (ok tt) fine) (not no_space) n)
     space_goes w (err a) (err b) (failed q) = come w (err (f w)) (err (g w)) (failed q)
+    space_goes w (ok a) (err b) x'' = elim x'' [ ]
+    space_goes w (err a) (ok b) x3 = elim x3 [ ]
 
   module _ (n : ℕ) (i j : Turn (List ℕ) (Tried (Unit {0})) → Does)
       (next : (x : List ℕ) → Twin f g 0 (i (again x)) (j (again x)))
@@ -293,6 +311,8 @@ module _ (f g : Reasons) where
     on_goes : (bytes : List ℕ) → Goes f g (λ res. i (go_on bytes res)) (λ res. j (go_on bytes res))
     on_goes bytes w (ok a) (ok b) fine = next bytes
     on_goes bytes w (err a) (err b) (failed q) = last w (err (f w)) (err (g w)) (failed q)
+    on_goes bytes w (ok a) (err b) x'' = elim x'' [ ]
+    on_goes bytes w (err a) (ok b) x3 = elim x3 [ ]
 
     space_waits : (filled : Filled) → Twin f g 0 (wait_space f filled n i) (wait_space g filled n j)
     space_waits break_xmit = last 0 (ok tt) (ok tt) fine

@@ -1,12 +1,12 @@
 -- Two behaviours of the driver that differ in the reason for an abort alone. They are found along the driver's text, as
--- legality is (regs/proofs/Legal.antt), and leave what `SameBut` says (`twin-left`).
+-- legality is (regs/proofs/Legal.antt), and leave what `SameBut` says (`twin_left`).
 --     Twin f g had t u    t and u are such: had is the first word other than 0 that was read from TX_ABRT_SOURCE before
 --                         them, 0 if there was none; t tells its reason by f and u by g
 --     SameAt had p q      what was so after the programs p and q is so before them
 --     Tells w a b         results of p and q that are both fine, with no word so far, or failed by f w and g w
 --     TellsP p q          p and q, with no word before them, have such results
 use Prim.Native.Nat.{ℕ, zero, suc}
-use mathlib.Core.Bool.{Bool, true, false, not}
+use mathlib.Core.Bool.{Bool, true, false}
 use mathlib.Core.List.{List, [], ◌∷◌}
 use mathlib.Core.Path.{◌≡◌, refl, ap, subst}
 use lib.Dec.{eqb}
@@ -19,7 +19,8 @@ use Rattle.regs.specs.declared.answers.Answer.TheVariants.{Refused}
 use Rattle.regs.specs.declared.answers.Reply.{Reply}
 use Rattle.regs.specs.declared.answers.Reply.TheVariants.{Answered}
 use Rattle.regs.specs.Registers.{TX_ABRT_SOURCE}
-use Rattle.regs.specs.Program.{if◌then◌else◌, ends, reads, writes, marks, stores, cut, when, turns, Turn, again, done}
+use Rattle.regs.specs.Program.{ends, reads, writes, marks, stores, cut, when, turns, Turn, again, done}
+use Rattle.std.specs.Prelude.{if◌then◌else◌}
 use Rattle.regs.specs.Program.{by_turn, rounds, Outcome, outcome, logged, ok, err}
 use Rattle.regs.proofs.Tests.{by_test}
 use Rattle.master.specs.Driver.{Driver, Reasons, Tried}

@@ -14,7 +14,8 @@ use mathlib.Core.Path.{subst}
 use lib.Dec.{T}
 use lib.ListN.{set, length}
 use Rattle.regs.specs.Registers.{legal_read, legal_write}
-use Rattle.regs.specs.Program.{if◌then◌else◌, Behaviour, ends, reads, writes, marks, stores, asks, keeps}
+use Rattle.regs.specs.Program.{Behaviour, ends, reads, writes, marks, stores, asks, keeps}
+use Rattle.std.specs.Prelude.{if◌then◌else◌}
 use Rattle.regs.specs.Program.{cut, Program, when, turns, Turn, again, done, by_turn, rounds, Poll, pending}
 use Rattle.regs.specs.Program.{ready, polled, wait_on, ◌>>=◌, Outcome, outcome}
 use Rattle.regs.specs.Log.{Legal, Each, legal_mark}

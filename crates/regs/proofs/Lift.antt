@@ -21,7 +21,7 @@ module _ {K S S' : Type 0} (next : S → Next) (advance : S → ℕ → S) (stor
   Outer = record { S = S'; K = K; next = next'; advance = advance'; store = store'; state = state' }
 
   module _ (f : S → S') (same_next : (s : S) → next' (f s) ≡ next s) (same_advance : (s : S) (v : ℕ) → advance' (f s) v ≡ f (advance s v))
-      (same_Store : (s : S) (v : ℕ) → store' (f s) v ≡ store s v) (same_state : (s : S) → state' (f s) ≡ state s) where
+      (same_store : (s : S) (v : ℕ) → store' (f s) v ≡ store s v) (same_state : (s : S) → state' (f s) ≡ state s) where
     steps_lift : (m : ℕ) (s : S) (b c : List ℕ) (z : K) (t : Behaviour K Answer) → Steps Inner m s b c z t → Steps Outer m (f s) b c z t
     steps_lift zero s b c z t g = tt
     steps_lift (suc m) s b c z (ends a) g = ((g.0.0, same_state s ∙ g.0.1), same_next s ∙ g.1)
@@ -29,7 +29,7 @@ module _ {K S S' : Type 0} (next : S → Next) (advance : S → ℕ → S) (stor
       (g.0.0, same_state s ∙ g.0.1),
       (
         same_next s ∙ g.1.0,
-        λ v. rw (same_advance s v, same_Store s v)
+        λ v. rw (same_advance s v, same_store s v)
             (steps_lift m (advance s v) (stored_in b (store s v)) c z (h v) (g.1.1 v)),
       ),
     )
@@ -37,7 +37,7 @@ module _ {K S S' : Type 0} (next : S → Next) (advance : S → ℕ → S) (stor
       (g.0.0, same_state s ∙ g.0.1),
       (
         same_next s ∙ g.1.0,
-        rw (same_advance s 0, same_Store s 0)
+        rw (same_advance s 0, same_store s 0)
             (steps_lift m (advance s 0) (stored_in b (store s 0)) c z t g.1.1),
       ),
     )
@@ -45,7 +45,7 @@ module _ {K S S' : Type 0} (next : S → Next) (advance : S → ℕ → S) (stor
       (g.0.0, same_state s ∙ g.0.1),
       (
         same_next s ∙ g.1.0,
-        rw (same_advance s 0, same_Store s 0)
+        rw (same_advance s 0, same_store s 0)
             (steps_lift m (advance s 0) (stored_in b (store s 0)) c z t g.1.1),
       ),
     )

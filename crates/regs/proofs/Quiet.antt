@@ -8,7 +8,8 @@ use mathlib.Core.Path.{◌≡◌}
 use lib.Dec.{eqb, T}
 use Rattle.regs.specs.Registers.{DATA_CMD}
 use Rattle.regs.specs.Left.{no_access}
-use Rattle.regs.specs.Program.{if◌then◌else◌, Behaviour, ends, Program, when, turns, Turn, again, done, by_turn, rounds, Poll}
+use Rattle.regs.specs.Program.{Behaviour, ends, Program, when, turns, Turn, again, done, by_turn, rounds, Poll}
+use Rattle.std.specs.Prelude.{if◌then◌else◌}
 use Rattle.regs.specs.Program.{pending, ready, polled}
 use Rattle.regs.specs.declared.answers.AbortReason.{AbortReason}
 use Rattle.regs.specs.declared.answers.AbortReason.TheVariants.{NoAcknowledge, ArbitrationLoss, TxNotEmpty}
@@ -19,7 +20,7 @@ use Rattle.regs.specs.declared.answers.Refusal.TheVariants.{Abort}
 use Rattle.regs.specs.declared.answers.Reply.{Reply}
 use Rattle.regs.specs.declared.answers.Reply.TheVariants.{Answered}
 use Rattle.regs.proofs.Stores.{Stores, ends_stores, reads_stores, writes_stores, marks_stores, asks_stores, keeps_stores}
-use Rattle.regs.proofs.Stores.{cut_stores, Late, Any}
+use Rattle.regs.proofs.Stores.{cut_stores, Late, any}
 
 abbrev pub Quiet : {S B : Type 0} → (S → List ℕ) → (Reply → ℕ → Type 0) → Program S Answer B → Type 0
 Quiet {S} {B} kept By p = (L i n : ℕ) (w : List ℕ) (me : S) (k : B → Behaviour S Answer)
@@ -89,7 +90,7 @@ module _ {S : Type 0} {kept : S → List ℕ} {By : Reply → ℕ → Type 0} wh
 -- where nothing is said of an answer but that its number is none of no access
 pub ends_late : {S : Type 0} {kept : S → List ℕ} {L i : ℕ} {w : List ℕ} {me : S} {a : Answer} → w ≡ kept me
     → T (not (no_access (Answered a)))
-    → Stores kept (Late Any) L i w me (ends a)
+    → Stores kept (Late any) L i w me (ends a)
 ends_late e h = ends_stores e (h, tt)
 
 pub abort_late : (reason : AbortReason) → T (not (no_access (Answered (Refused (Abort reason)))))

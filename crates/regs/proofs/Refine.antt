@@ -1,4 +1,4 @@
--- A machine that does what a behaviour does, over Any machine.
+-- A machine that does what a behaviour does, over any machine.
 --     Agree m s b c z t    the machine, at the point s with the buffer b, does the first m things that the
 --                          behaviour t does from the buffer c and the state z:
 --                          at each access, b is what t has made of c, and the machine's state what t has made of z
@@ -14,7 +14,8 @@ use lib.Dec.{ltb}
 use lib.ListN.{length, get_or, set, drop, drop_of_length-le, length-set}
 use lib.Seq.{sets, sets-eq, drop-cons}
 use borrow.Author.Tests.{ltb-true, ltb-false}
-use Rattle.regs.specs.Program.{if◌then◌else◌, Behaviour, ends, reads, writes, marks, stores, asks, keeps}
+use Rattle.regs.specs.Program.{Behaviour, ends, reads, writes, marks, stores, asks, keeps}
+use Rattle.std.specs.Prelude.{if◌then◌else◌}
 use Rattle.regs.specs.Program.{cut, Program, behaviour, turns, Turn, by_turn, rounds, Outcome, outcome, just}
 use Rattle.regs.specs.Program.{logged}
 use Rattle.regs.specs.Log.{encode, reads_in, Leaves, LeavesBuffer, LeavesState, LeavesAll, expected}

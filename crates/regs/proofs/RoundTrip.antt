@@ -8,7 +8,7 @@ use lib.Dec.{T, eqb, ltb, eqb→eq}
 use lib.ListN.{length, get_or, take, drop, length-drop}
 use lib.Seq.{take_at, drop-cons, get_or-take}
 use borrow.Author.Tests.{ltb-true}
-use Rattle.regs.specs.Registers.{Register, registers, Any, can_write, legal_read, legal_write}
+use Rattle.regs.specs.Registers.{Register, registers, any, can_write, legal_read, legal_write}
 use Rattle.regs.specs.Program.{Outcome}
 use Rattle.regs.specs.Log.{encode, decode, entry, Legal, legal_mark, Each, Leaves}
 use Rattle.regs.specs.declared.answers.Reply.{Reply}
@@ -31,11 +31,11 @@ found : (o : ℕ) (f : Register → Bool)
     → ((r : Register) → T (f r) → r.offset ≡ o)
     → (rs : List Register)
     → T (bytes rs)
-    → T (Any f rs)
+    → T (any f rs)
     → o < 256
 found o f is [] a h = absurd h
 found o f is (r ∷ rs) a h =
-    either (f r) (Any f rs) h
+    either (f r) (any f rs) h
     (λ t. omega (
       arith,
       is r t,

@@ -1,4 +1,4 @@
--- A call whose machine agrees with its definition is stepped as that definition says. It rests on `stepped-is`.
+-- A call whose machine agrees with its definition is stepped as that definition says. It rests on `stepped_is`.
 use Prim.Native.Nat.{ℕ, suc, ◌/◌, ◌≤◌}
 use native.Mathlib.Nat.{le_refl}
 use mathlib.Core.List.{List}

@@ -209,5 +209,5 @@ module _ {S : Type 0} (kept : S → List ℕ) (By : Reply → ℕ → Type 0)
 abbrev pub none : {S : Type 0} → S → List ℕ
 none _ = []
 
-abbrev pub Any : Reply → ℕ → Type 0
-Any r k = Unit {0}
+abbrev pub any : Reply → ℕ → Type 0
+any r k = Unit {0}

@@ -1,12 +1,13 @@
--- A machine with a running sum does what the machine with the log does, over Any machine, sum and watcher; so it does
--- what the watched program does (`summed-left`, `summed-stepped`), where the machine alone agrees with the program.
+-- A machine with a running sum does what the machine with the log does, over any machine, sum and watcher; so it does
+-- what the watched program does (`summed_left`, `summed_stepped`), where the machine alone agrees with the program.
 use Prim.Native.Nat.{ℕ, zero, suc, ◌/◌, ◌≤◌}
 use native.Mathlib.Nat.{le_refl}
-use mathlib.Core.Bool.{Bool, true, false}
+use mathlib.Core.Bool.{Bool, false}
 use mathlib.Core.List.{List, [], ◌∷◌, ◌++◌}
 use mathlib.Core.Path.{◌≡◌, refl, sym, ap, ◌∙◌}
 use lib.ListN.{length}
-use Rattle.regs.specs.Program.{if◌then◌else◌, Behaviour, Program, ends, Outcome, just, logged, outcome}
+use Rattle.regs.specs.Program.{Behaviour, Program, ends, Outcome, just, logged, outcome}
+use Rattle.std.specs.Prelude.{if◌then◌else◌}
 use Rattle.regs.specs.Steps.{Machine, stored_in, stepped, without_room, with_room, SteppedAs}
 use Rattle.regs.specs.Watched.{Watcher, watched, watched_from}
 use Rattle.regs.specs.Inner.Watched.{changed, longer_log, placed, watched_machine}
@@ -82,7 +83,7 @@ module _ {D : Type 0} (X : Summer D) (d : D) (sum : List Entry → D) (O : Watch
   every_place : (n i : ℕ) → O.has_place i ≡ false → n ≤ i
   every_place n i q = absurd (false_true (sym q ∙ h.places i))
 
-  -- from a point, a buffer and a state where the machine agrees with t, behind Any log
+  -- from a point, a buffer and a state where the machine agrees with t, behind any log
   pub summed_left : (room : ℕ) (log : List Entry) {s : M.S} {b c : List ℕ} {z : M.K} {t : Behaviour M.K Answer}
       → Agree M (suc room) s b c z t
       → (rs : List ℕ)

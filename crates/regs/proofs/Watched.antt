@@ -1,12 +1,12 @@
--- A watched machine does what the watched program does, over Any machine and watcher. It rests on the agreement of the
+-- A watched machine does what the watched program does, over any machine and watcher. It rests on the agreement of the
 -- machine and the program (`Agree`), and on a buffer that has no place where the watcher has none.
 use Prim.Native.Nat.{ℕ, zero, suc, ◌≤◌}
 use native.Mathlib.Omega.{arith}
-use mathlib.Core.Bool.{Bool, true, false}
-use mathlib.Core.List.{List, [], ◌∷◌, ◌++◌}
-use mathlib.Core.Path.{◌≡◌, refl, sym, ◌∙◌, ap}
+use mathlib.Core.Bool.{false}
+use mathlib.Core.List.{List, [], ◌∷◌}
+use mathlib.Core.Path.{◌≡◌, refl, sym, ap}
 use lib.ListN.{length, set, length-set}
-use Rattle.regs.specs.Program.{if◌then◌else◌, Behaviour, ends, reads, writes, marks, stores, asks, keeps, cut}
+use Rattle.regs.specs.Program.{Behaviour, ends, reads, writes, marks, stores, asks, keeps, cut}
 use Rattle.regs.specs.Steps.{Machine, stored_in}
 use Rattle.regs.specs.Watched.{Watcher, watched_from}
 use Rattle.regs.specs.Inner.Watched.{placed, watched_machine}

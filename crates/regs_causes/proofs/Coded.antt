@@ -11,7 +11,7 @@ use lib.Count.{ones, ones_step, count_trailing_zeros, under}
 use lib.Dec.{eqb, lit<, lit≤}
 use lib.Pow.{field, mod-mod-pow, shr-shr}
 use Rattle.regs.specs.Fields.{b2n, bit}
-use Rattle.regs.specs.Program.{if◌then◌else◌}
+use Rattle.std.specs.Prelude.{if◌then◌else◌}
 use Rattle.regs_causes.specs.Causes.{set_from, lowest_from, CAUSES, causes_of}
 use Rattle.regs_causes.specs.declared.SetCauses.{SetCauses}
 use Rattle.regs_causes.specs.declared.SetCauses.TheVariants.{None, Set}

@@ -1,4 +1,4 @@
--- The laws of the causes. None and the low bits go by what code computes (`as-coded`); the lowest goes by induction on the
+-- The laws of the causes. None and the low bits go by what code computes (`as_coded`); the lowest goes by induction on the
 -- definition, and the reasons by the three or four lowest bits.
 use mathlib.Core.Path.{◌≡◌, refl, sym, ap, ap₂, subst, ◌∙◌}
 use mathlib.Core.Bool.{Bool, true, false, not}
@@ -120,7 +120,7 @@ three_clear l w h clear =
     let low : w % 4 ≡ 0 = mod-pow-add w 1 1 ∙ ap₂ (λ (x y : ℕ). x * 2 + y) b a in
     mod-pow-add w 1 2 ∙ ap₂ (λ (x y : ℕ). x * 4 + y) c low
 
--- the same of Any count and lowest that a word is said to have
+-- the same of any count and lowest that a word is said to have
 pub told : (w : ℕ) (c : Counted) → causes_of w ≡ Set c → Lowest w c
 told w c e =
     let some : w % 2 ^ 17 ≡ 0 → ⊥ = λ z. none≢set (sym (clear→none w z) ∙ e) in

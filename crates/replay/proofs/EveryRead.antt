@@ -1,13 +1,10 @@
 -- The claim over the whole program: what is handed to be written is what Session prints of all that was read. It rests on
 -- the contracts of `read_all` and `at_end`.
-use mathlib.Core.Bool.{true, false}
-use mathlib.Core.List.{List, [], ◌++◌, append-nil}
-use mathlib.Core.Path.{◌≡◌, refl, sym, ap, ◌∙◌}
-use Rattle.text_stdin.specs.Reads.{is_ended_at}
-use Rattle.text_stdin.specs.declared.reads.End.TheVariants.{Ended}
+use mathlib.Core.List.{[], ◌++◌, append-nil}
+use mathlib.Core.Path.{sym, ap, ◌∙◌}
 use Rattle.replay_session.specs.Session.{printed}
 use Rattle.replay_state.specs.Inner.Rest.{rest}
-use Rattle.replay.specs.Replayed.{ReadAll, PrintsSession, PrintsBeginning}
+use Rattle.replay.specs.Replayed.{PrintsSession, PrintsBeginning}
 
 pub every_read : PrintsSession
 every_read w r out made p g e f =

@@ -1,10 +1,10 @@
--- A transfer by its form is one of the master's calls, whose accesses are legal (`every-access-legal` of the master).
+-- A transfer by its form is one of the master's calls, whose accesses are legal (`every_access_legal` of the master).
 use Prim.Native.Nat.{ℕ, ◌%◌}
 use lib.Dec.{eqb, ltb}
 use lib.ListN.{length}
 use mathlib.Core.Bool.{Bool, true, false, ◌&&◌}
 use mathlib.Core.List.{List}
-use Rattle.regs.specs.Program.{if◌then◌else◌}
+use Rattle.std.specs.Prelude.{if◌then◌else◌}
 use Rattle.regs.specs.Legality.{LegalCall}
 use Rattle.regs.specs.declared.answers.Answer.{Answer}
 use Rattle.master.specs.Driver.{Driver, reason_of}

@@ -8,16 +8,14 @@ use lib.Dec.{eqb, ltb}
 use lib.ListN.{length, take, drop, get_or, length-drop, get_or-eq_default}
 use lib.Seq.{take_all}
 use borrow.Author.Tests.{ne_eqb, ltb-true, ltb-false}
-use Rattle.regs.specs.Program.{if◌then◌else◌}
+use Rattle.std.specs.Prelude.{if◌then◌else◌}
 use Rattle.text_hex.specs.Text.{digit_of, and_digit, number_at}
 use Rattle.text_hex.specs.declared.digits.Value.{Value}
 use Rattle.text_hex.specs.declared.digits.Value.TheVariants.{Is, No}
 use Rattle.replay_frames.specs.Frame.{Frame, bad, sized, slave_of, of_kind, plain_of, LONGEST, fill_head}
 use Rattle.replay_frames.specs.Frame.{slave_head, head_by, head_of, width}
 use Rattle.replay_frames.specs.declared.Line.{Line}
-use Rattle.replay_frames.specs.declared.Line.TheVariants as Line
 use Rattle.replay_frames.specs.declared.Head.{Head}
-use Rattle.replay_frames.specs.declared.Head.TheVariants as Head
 
 no_digit : (v : Value) → and_digit v 16 ≡ No
 no_digit No = refl

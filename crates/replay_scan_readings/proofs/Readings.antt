@@ -8,7 +8,7 @@ use lib.Dec.{ltb}
 use lib.ListN.{length, take, drop, get_or, length-drop}
 use lib.Seq.{get_or-take, get_or-drop, length-take-le}
 use borrow.Author.Tests.{ltb-true, ltb-false}
-use Rattle.regs.specs.Program.{if◌then◌else◌}
+use Rattle.std.specs.Prelude.{if◌then◌else◌}
 use Rattle.text_hex.specs.Text.{digit_of, and_digit, number_at}
 use Rattle.text_hex.specs.declared.digits.Value.{Value}
 use Rattle.text_hex.specs.declared.digits.Value.TheVariants.{Is, No}

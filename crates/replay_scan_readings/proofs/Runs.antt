@@ -10,7 +10,7 @@ use lib.ListN.{length, take, drop, set, length-set}
 use lib.Seq.{take-suc-set, length-take-le}
 use borrow.Author.Tests.{lt-ltb, le-ltb, eqb-true}
 use Rattle.regs.proofs.Tests.{both_of, false_true}
-use Rattle.regs.specs.Program.{if◌then◌else◌}
+use Rattle.std.specs.Prelude.{if◌then◌else◌}
 use Rattle.slave.specs.declared.SlaveState.{SlaveState}
 use Rattle.replay_calls.specs.Calls.{MOST_READINGS}
 use Rattle.replay_calls.specs.declared.Call.{Call}

@@ -7,7 +7,7 @@ use mathlib.Core.Path.{◌≡◌, refl, ap, ◌∙◌}
 use lib.Dec.{ltb}
 use lib.ListN.{length, get_or}
 use borrow.Author.Tests.{ltb-true}
-use Rattle.regs.specs.Program.{if◌then◌else◌}
+use Rattle.std.specs.Prelude.{if◌then◌else◌}
 use Rattle.text_hex.specs.Text.{digit_of, number_at}
 use Rattle.text_hex.specs.declared.digits.Value.TheVariants.{Is}
 use Rattle.text_hex.proofs.Numbers.{one_more}

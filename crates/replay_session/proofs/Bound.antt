@@ -9,7 +9,7 @@ use lib.Dec.{ltb}
 use lib.ListN.{length, length-append}
 use borrow.Author.Tests.{ltb-true, lt-ltb}
 use Rattle.regs.proofs.Tests.{false_true}
-use Rattle.regs.specs.Program.{if◌then◌else◌}
+use Rattle.std.specs.Prelude.{if◌then◌else◌}
 use Rattle.master.specs.Operations.{Operation, writes, reads, READ, WRITE}
 use Rattle.slave.specs.declared.SlaveState.{SlaveState}
 use Rattle.replay_calls.specs.Calls.{MOST_READINGS, Listed, listed, listing, call_text, slave_after}
@@ -17,7 +17,6 @@ use Rattle.replay_calls.specs.declared.Call.{Call}
 use Rattle.text_hex.specs.Text.{lines, these}
 use Rattle.replay_frames.specs.Frame.{Frame, opens, write, read, reading, run, bad, bytes_frame, frame_of}
 use Rattle.replay_frames.specs.declared.Line.{Line}
-use Rattle.replay_frames.specs.declared.Line.TheVariants as Line
 use Rattle.replay_session.specs.Session.{Next, going, malformed, Session, read_taken, write_taken, complete}
 use Rattle.replay_session.specs.Session.{next, is_open, onward, line_after, printed_from, printed, fresh}
 use Rattle.replay_session.specs.Session as S
@@ -87,7 +86,7 @@ bounded_more os o = rw (listing_more os o) (go (over (listing os)) refl)
     go true e = rw (e, over_more (listing os) o e)
     go false e = rw e
 
--- ---- more bytes than Any call may have, whichever they are
+-- ---- more bytes than any call may have, whichever they are
 
 wide : (l : Listed) (bs : List ℕ) → 4096 < length bs → bounded (with_operation l (writes bs)) ≡ large
 wide l bs h = rw beyond

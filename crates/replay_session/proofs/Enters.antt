@@ -23,7 +23,6 @@ use Rattle.replay_calls.specs.declared.Call.TheVariants.{Respond, RespondAndFill
 use Rattle.replay_calls.specs.declared.Done.{Done}
 use Rattle.replay_frames.specs.Frame.{opens, read, reading, run, bad, bytes_frame}
 use Rattle.replay_frames.specs.declared.Line.{Line}
-use Rattle.replay_frames.specs.declared.Line.TheVariants as Line
 use Rattle.replay_session.specs.Session.{going, malformed, wants_of, read_taken, write_taken, complete}
 use Rattle.replay_session.specs.Inner.Bounded.{bounded, add, Held, within, operation, next_held}
 use Rattle.replay_session.specs.Inner.Enter.{Arrays, arrays, kept_of, session_of, no_counts, no_call, Within}
@@ -145,7 +144,7 @@ module _ (o : Open) (s : SlaveState) (a : Arrays) (at : ℕ) (out : List ℕ) (g
         go (Line.RespondAndFill x) true b = rw b (refused l')
         go (Line.RespondAndFill x) false b = rw b (responds (RespondAndFill x) refl b)
 
-  -- a line of more bytes than Any call may have
+  -- a line of more bytes than any call may have
   pub enters_wide : (bs : List ℕ)
       → 4096 < length bs
       → (line : Line)

@@ -1,12 +1,12 @@
--- The operations of an open call are those of its form: `frame_right` for the frame that opens it, `came-more` and
--- `came-closed` for the frames after that.
+-- The operations of an open call are those of its form: `frame_right` for the frame that opens it, `came_more` and
+-- `came_closed` for the frames after that.
 use Prim.Native.Nat.{ℕ}
 use mathlib.Core.Bool.{Bool, true, false}
 use mathlib.Core.List.{List, [], ◌∷◌, ◌++◌}
 use mathlib.Core.Path.{◌≡◌, refl, ap, ◌∙◌}
 use lib.Dec.{eqb, ltb}
 use lib.ListN.{length}
-use Rattle.regs.specs.Program.{if◌then◌else◌}
+use Rattle.std.specs.Prelude.{if◌then◌else◌}
 use Rattle.regs.proofs.Tests.{false_true}
 use Rattle.master.specs.Operations.{Operation, writes, reads}
 use Rattle.replay_calls.specs.declared.Call.{Call}
@@ -18,9 +18,7 @@ use Rattle.replay_frames.specs.Frame.{Frame, opens, write, read, reading, run, b
 use Rattle.replay_frames.specs.Frame.{of_kind, slave_of, sized, clock_of, master_of, reset_of, listen_of, fill_of}
 use Rattle.replay_frames.specs.Frame.{read_of, reading_of, head_of}
 use Rattle.replay_frames.specs.declared.Line.{Line}
-use Rattle.replay_frames.specs.declared.Line.TheVariants as Line
 use Rattle.replay_frames.specs.declared.Head.{Head}
-use Rattle.replay_frames.specs.declared.Head.TheVariants as Head
 use Rattle.replay_session.specs.Session.{wants_by, wants_of, read_taken, write_taken, complete}
 use Rattle.replay_session.specs.declared.Wants.{Wants}
 use Rattle.replay_session.specs.declared.Wants.TheVariants.{Nothing, Write}

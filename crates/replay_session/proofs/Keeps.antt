@@ -11,10 +11,10 @@ use lib.ListN.{length, take, set, length-append, length-set}
 use lib.Seq.{take-suc-set, length-take-le}
 use borrow.Author.Tests.{ltb-false}
 use Rattle.regs.proofs.Tests.{false_true}
-use Rattle.regs.specs.Program.{if◌then◌else◌}
+use Rattle.std.specs.Prelude.{if◌then◌else◌}
 use Rattle.master.specs.Operations.{writes, reads}
 use Rattle.replay_calls.specs.Calls.{listed}
-use Rattle.replay_session.specs.Inner.Bounded.{over, large, add}
+use Rattle.replay_session.specs.Inner.Bounded.{over, add}
 use Rattle.replay_session.specs.Inner.Enter.{Arrays, arrays, kept_of, Within, Lent, over_of, too_many, added_to}
 use Rattle.replay_session.specs.declared.Counts.{Counts}
 use Rattle.replay_session.proofs.Bound.{add_wide}
@@ -172,7 +172,7 @@ module _ (n : Counts) (a : Arrays) (h : Within n) (l : Lent a) where
             add-zero,
           )
 
-  -- a write of more bytes than Any call may have
+  -- a write of more bytes than any call may have
   pub kept_wide : (bs : List ℕ) → 4096 < length bs → kept_of (over_of n) a ≡ add (kept_of n a) (writes bs)
   kept_wide bs h = sym (add_wide (kept_of n a) bs h)
 

@@ -1,5 +1,5 @@
 -- Operations of a call's form that are beyond the limits are refused by the call's driver, with number 20
--- (`over-refused`): `fits` and `lists` are false then, and the slave's `within-limits` exits.
+-- (`over_refused`): `fits` and `lists` are false then, and the slave's `within_limits` exits.
 use Prim.Native.Nat.{ℕ, ◌+◌, ◌%◌}
 use mathlib.Core.Bool.{Bool, true, false, ◌&&◌, ◌||◌}
 use mathlib.Core.List.{List, [], ◌∷◌, ◌++◌}
@@ -7,7 +7,8 @@ use mathlib.Core.Path.{◌≡◌, refl}
 use lib.Dec.{eqb, ltb, leb}
 use lib.ListN.{length}
 use borrow.Author.Tests.{ltb-true, lt-leb}
-use Rattle.regs.specs.Program.{if◌then◌else◌, Program, behaviour, ends, Outcome, outcome, just}
+use Rattle.regs.specs.Program.{Program, behaviour, ends, Outcome, outcome, just}
+use Rattle.std.specs.Prelude.{if◌then◌else◌}
 use Rattle.regs.proofs.Tests.{false_true}
 use Rattle.regs.specs.declared.answers.Answer.{Answer}
 use Rattle.regs.specs.declared.answers.Answer.TheVariants.{Refused}

@@ -1,4 +1,4 @@
--- The claim: whoever feeds an input in chunks of Any sizes, writes out what each call of `feed` says, and at the
+-- The claim: whoever feeds an input in chunks of any sizes, writes out what each call of `feed` says, and at the
 -- end what `finish` says, has written what Session
 -- says of the input.
 use Prim.Native.Nat.{ℕ}

@@ -15,7 +15,6 @@ use Rattle.text_hex.proofs.Pairs.{digits_joined, length_values, written, unwritt
 use Rattle.replay_frames.specs.Frame.{bad, head_of, width, bytes_frame, frame_of}
 use Rattle.replay_frames.proofs.Lengths.{long_bad}
 use Rattle.replay_frames.specs.declared.Line.{Line}
-use Rattle.replay_frames.specs.declared.Line.TheVariants as Line
 use Rattle.replay_frames.specs.declared.Head.{Head}
 use Rattle.replay_frames.specs.declared.Head.TheVariants.{Plain, Bytes}
 use Rattle.replay_session.specs.Session.{refusal}

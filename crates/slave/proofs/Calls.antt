@@ -1,4 +1,4 @@
--- What each of the five calls leaves: `call-whole`. A reset and the responses read no byte from DATA_CMD, keep the pending
+-- What each of the five calls leaves: `call_whole`. A reset and the responses read no byte from DATA_CMD, keep the pending
 -- byte, and answer with a number of no access only before their first access; by the rules of regs/proofs/Quiet.antt.
 use Prim.Native.Nat.{ℕ, zero, suc, ◌/◌}
 use mathlib.Core.Bool.{Bool, false, not}
@@ -9,7 +9,7 @@ use lib.ListN.{length}
 use Rattle.regs.proofs.Tests.{by_test}
 use Rattle.regs.proofs.Proper.{InTurn}
 use Rattle.regs.proofs.Stores.{Stores, reads_stores, writes_stores, marks_stores, cut_stores, Late, Opens, refuses, begins}
-use Rattle.regs.proofs.Stores.{Whole, whole, Any}
+use Rattle.regs.proofs.Stores.{Whole, whole, any}
 use Rattle.regs.proofs.Quiet.{Quiet, quiet, ends_late}
 use Rattle.regs.specs.Left.{no_access}
 use Rattle.regs.specs.Registers.{INTR_MASK}
@@ -34,7 +34,7 @@ use Rattle.slave.proofs.Stores.{listen_whole}
 
 -- nothing is stored, and the pending byte is kept
 abbrev Rests : SlaveState → Behaviour SlaveState Answer → Type 0
-Rests me t = Stores kept (Late Any) 0 0 (kept me) me t
+Rests me t = Stores kept (Late any) 0 0 (kept me) me t
 
 -- a result that is no refusal of no access
 abbrev Fine : {B : Type 0} → Result B Refusal → Type 0
@@ -47,7 +47,7 @@ till_fine (ok Done) fine = tt
 till_fine (ok (LeftoverBytes c)) fine = tt
 till_fine (err e) fine = fine
 
-send_chunk_quiet : (chunk : List ℕ) → Quiet kept (Late Any) (send_chunk chunk)
+send_chunk_quiet : (chunk : List ℕ) → Quiet kept (Late any) (send_chunk chunk)
 unfolding send_chunk
 send_chunk_quiet [] = search quiet
 send_chunk_quiet (byte ∷ rest) = let ih = send_chunk_quiet rest in search quiet
@@ -126,7 +126,7 @@ module _ (me : SlaveState) (n : ℕ) where
 
 -- of a call other than `listen`
 abbrev Calls : SlaveState → Behaviour SlaveState Answer → Type 0
-Calls me t = Opens kept Any 0 me t
+Calls me t = Opens kept any 0 me t
 
 reset_rests : (address : ℕ) (general_call : Bool) (me : SlaveState) (n : ℕ) → Rests me (reset address general_call n (λ _. ends Accepted))
 unfolding reset
@@ -165,20 +165,20 @@ and_fill_opens bytes fill me n =
 
 -- what the answer says of the bytes stored, where there is a buffer
 abbrev pub Told : Call → Reply → ℕ → Type 0
-Told (resets address general_call) = Any
+Told (resets address general_call) = any
 Told (listens buffer) = Tells (length buffer)
-Told (responds bytes) = Any
-Told (fills fill) = Any
-Told (responds_and_fills bytes fill) = Any
+Told (responds bytes) = any
+Told (fills fill) = any
+Told (responds_and_fills bytes fill) = any
 
 pub call_whole : (c : Call) (log readings : List ℕ) (me : SlaveState)
     → Whole kept (Told c) (buffer_in c) me (left_by_call c log readings me)
 call_whole (resets address general_call) log readings me =
-    whole kept Any (λ _. tt) (λ _. tt) (reset_opens address general_call me _) (length log / 2) readings [] refl
+    whole kept any (λ _. tt) (λ _. tt) (reset_opens address general_call me _) (length log / 2) readings [] refl
 call_whole (listens buffer) log readings me = listen_whole buffer log readings me
 call_whole (responds bytes) log readings me =
-    whole kept Any (λ _. tt) (λ _. tt) (respond_opens bytes me _) (length log / 2) readings [] refl
+    whole kept any (λ _. tt) (λ _. tt) (respond_opens bytes me _) (length log / 2) readings [] refl
 call_whole (fills fill) log readings me =
-    whole kept Any (λ _. tt) (λ _. tt) (till_stop_opens fill me _) (length log / 2) readings [] refl
+    whole kept any (λ _. tt) (λ _. tt) (till_stop_opens fill me _) (length log / 2) readings [] refl
 call_whole (responds_and_fills bytes fill) log readings me =
-    whole kept Any (λ _. tt) (λ _. tt) (and_fill_opens bytes fill me _) (length log / 2) readings [] refl
+    whole kept any (λ _. tt) (λ _. tt) (and_fill_opens bytes fill me _) (length log / 2) readings [] refl

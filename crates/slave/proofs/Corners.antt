@@ -7,7 +7,8 @@ use mathlib.Core.Logic.{◌≢◌}
 use mathlib.Core.Path.{◌≡◌, refl}
 use lib.Dec.{ltb}
 use lib.ListN.{replicate}
-use Rattle.regs.specs.Program.{if◌then◌else◌, Outcome, outcome, behaviour, Program, rounds}
+use Rattle.regs.specs.Program.{Outcome, outcome, behaviour, Program, rounds}
+use Rattle.std.specs.Prelude.{if◌then◌else◌}
 use Rattle.regs.specs.Answers.{abort_number}
 use Rattle.regs.specs.Fields.{set_field, no_acknowledge, arb_lost, tx_flush_cnt}
 use Rattle.regs.specs.declared.access.Entry.{Entry}

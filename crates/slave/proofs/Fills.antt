@@ -1,14 +1,14 @@
 -- A fill ends where the master has stopped: `respond_till_stop` does not end at NeedMoreBytes, and `respond_and_fill`
--- does not answer it. One claim for both, taken along the calls by `Responses`; it rests on `till-stop` and `filled`.
+-- does not answer it. One claim for both, taken along the calls by `Responses`; it rests on `till_stop` and `filled`.
 use Prim.Native.Nat.{ℕ, zero, suc, ◌/◌}
 use native.Mathlib.Omega.{arith}
-use mathlib.Core.Bool.{Bool, true}
+use mathlib.Core.Bool.{true}
 use mathlib.Core.List.{List, [], ◌∷◌}
 use mathlib.Core.Logic.{◌⊎◌, inl, inr, ◌≢◌}
 use mathlib.Core.Path.{◌≡◌, refl}
 use lib.ListN.{length}
 use Rattle.regs.specs.Registers.{CLR_RX_DONE, CLR_INTR}
-use Rattle.regs.specs.Program.{Behaviour, ends, reads, Outcome, outcome, just, logged, Result, ok, err, done}
+use Rattle.regs.specs.Program.{ends, reads, Outcome, outcome, just, logged, Result, ok, err}
 use Rattle.regs.specs.declared.access.Entry.{Entry}
 use Rattle.regs.specs.declared.access.Entry.TheVariants as E
 use Rattle.regs.specs.declared.answers.Answer.{Answer}
@@ -18,7 +18,7 @@ use Rattle.regs.specs.declared.answers.ReadStatus.TheVariants.{Done, NeedMoreByt
 use Rattle.regs.specs.declared.answers.Refusal.{Refusal}
 use Rattle.regs.specs.declared.answers.Reply.{Reply}
 use Rattle.regs.specs.declared.answers.Reply.TheVariants.{Answered, LogFull, OutOfReadings}
-use Rattle.slave.specs.I2cSlave.{answer, till_stop, filled}
+use Rattle.slave.specs.I2cSlave.{answer, filled}
 use Rattle.slave.specs.Counts.{ends_at_stop, FilledTillStop, FillsTillStop, FillsUpTillStop}
 use Rattle.slave.specs.declared.SlaveState.{SlaveState}
 use Rattle.slave.proofs.Basics.{Out}

@@ -19,7 +19,7 @@ use Rattle.slave.specs.I2cSlave.{FIFO_SIZE, abort_reason, answer, respond_to_rea
 use Rattle.slave.specs.I2cSlave.{respond_till_stop, filled, and_fill, respond_and_fill, respond_to_read_call}
 use Rattle.slave.specs.I2cSlave.{respond_till_stop_call, respond_and_fill_call}
 use Rattle.slave.specs.declared.SlaveState.{SlaveState}
-use Rattle.slave.proofs.Waits.{Claim, Kept, Came, cleared, All, reads_all, cut_all, cleared_all, waits}
+use Rattle.slave.proofs.Waits.{Claim, Kept, Came, cleared, All, cut_all, cleared_all, waits}
 use Rattle.slave.proofs.Waits.Came.{came_done, came_more, came_leftover, came_error}
 
 -- the answers that P holds of: a status with all bytes sent, LeftoverBytes of the source that was read last, a refusal

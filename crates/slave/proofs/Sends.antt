@@ -9,7 +9,8 @@ use lib.Dec.{eqb, ltb}
 use lib.ListN.{length, take, drop, replicate}
 use Rattle.regs.specs.Fields.{no_acknowledge, arb_lost, tx_flush_cnt}
 use Rattle.regs.specs.Registers.{TX_ABRT_SOURCE}
-use Rattle.regs.specs.Program.{if◌then◌else◌, Outcome, just, logged, Result, ok, err}
+use Rattle.regs.specs.Program.{Outcome, just, logged, Result, ok, err}
+use Rattle.std.specs.Prelude.{if◌then◌else◌}
 use Rattle.regs.specs.declared.access.Entry.TheVariants as E
 use Rattle.regs.specs.declared.answers.AbortReason.TheVariants as A
 use Rattle.regs.specs.declared.answers.Answer.{Answer}

@@ -1,4 +1,4 @@
--- What `listen` stores, whatever it answers: `listen-conserves`. Along its text, with len bytes stored so far, what it reads is
+-- What `listen` stores, whatever it answers: `listen_conserves`. Along its text, with len bytes stored so far, what it reads is
 -- stored at the next place or kept, by the law of regs/proofs/Stores.antt.
 use Prim.Native.Nat.{ℕ, zero, suc, ◌+◌, ◌/◌, ◌<◌, ◌≤◌}
 use native.Mathlib.Omega.{arith}
@@ -62,7 +62,7 @@ module _ (L : ℕ) where
       → Keeps len (kept me) me (marks x t)
   marking h = marks_stores refl h
 
-  -- of Any bytes that wait
+  -- of any bytes that wait
 
   asking : {len : ℕ} {w : List ℕ} {me : SlaveState} {f : SlaveState → Behaviour SlaveState Answer}
       → Keeps len w me (f me)

@@ -7,7 +7,8 @@ use mathlib.Core.Path.{◌≡◌, refl, ◌∙◌}
 use lib.Dec.{ltb}
 use lib.ListN.{length, get_or, length-set}
 use borrow.Author.Tests.{lt-ltb, le-ltb, ltb-false}
-use Rattle.regs.specs.Program.{if◌then◌else◌, PENDING}
+use Rattle.regs.specs.Program.{PENDING}
+use Rattle.std.specs.Prelude.{if◌then◌else◌}
 use Rattle.regs.specs.Registers.{CLR_RD_REQ, DATA_CMD, RAW_INTR_STAT, INTR_MASK}
 use Rattle.regs.specs.Fields.{tx_abrt}
 use Rattle.regs.specs.Inner.Machine.{entered}

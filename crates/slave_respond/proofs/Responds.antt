@@ -46,7 +46,7 @@ answered job Done = response job (P.Ended Done)
 answered job NeedMoreBytes = more_bytes job
 answered job (LeftoverBytes n) = response job (P.Ended (LeftoverBytes n))
 
--- a machine with these bytes, whose length stands in it: at every point for a response of the bytes, and Any number for fill bytes alone
+-- a machine with these bytes, whose length stands in it: at every point for a response of the bytes, and any number for fill bytes alone
 module _ (bytes : List ℕ) where
   abbrev M : Machine
   M = machine bytes

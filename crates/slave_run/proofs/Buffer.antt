@@ -6,7 +6,7 @@ use mathlib.Core.Path.{◌≡◌, refl, sym, ◌∙◌}
 use lib.Dec.{eqb, ltb}
 use lib.ListN.{length}
 use Rattle.regs.proofs.Tests.{false_true}
-use Rattle.regs.specs.Program.{if◌then◌else◌}
+use Rattle.std.specs.Prelude.{if◌then◌else◌}
 use Rattle.regs.specs.Inner.Machine.{Final, final, ran, taken, by_performed, entered, head_of, value_of}
 use Rattle.regs.specs.Steps.{stored_in}
 use Rattle.regs.specs.declared.access.Performed.{Performed}

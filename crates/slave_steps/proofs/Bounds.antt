@@ -1,4 +1,4 @@
--- Every call is bounded by its readings and its log alone: a law of Any machine that agrees with a program, at the five calls.
+-- Every call is bounded by its readings and its log alone: a law of any machine that agrees with a program, at the five calls.
 use Prim.Native.Nat.{ℕ, ◌≤◌}
 use mathlib.Core.List.{List, []}
 use lib.ListN.{length}

@@ -8,18 +8,18 @@ use Rattle.slave_steps.proofs.Resets.{reset_agrees}
 use Rattle.slave_steps.proofs.Agrees.{listen_agrees, respond_agrees, respond_till_stop_agrees, respond_and_fill_agrees}
 
 pub stepped_calls : SteppedCalls
-stepped_calls (resets address general_call) Any =
+stepped_calls (resets address general_call) any =
     let c = resets address general_call in
-    stepped_as (machine Any) (program c) (start c) (reset_agrees Any address general_call)
-stepped_calls (listens buffer) Any =
+    stepped_as (machine any) (program c) (start c) (reset_agrees any address general_call)
+stepped_calls (listens buffer) any =
     let c = listens buffer in
-    stepped_as (machine Any) (program c) (start c) (listen_agrees Any (length buffer))
-stepped_calls (responds bytes) Any =
+    stepped_as (machine any) (program c) (start c) (listen_agrees any (length buffer))
+stepped_calls (responds bytes) any =
     let c = responds bytes in
     stepped_as (machine bytes) (program c) (start c) (respond_agrees bytes)
-stepped_calls (fills fill) Any =
+stepped_calls (fills fill) any =
     let c = fills fill in
-    stepped_as (machine Any) (program c) (start c) (respond_till_stop_agrees Any fill)
-stepped_calls (responds_and_fills bytes fill) Any =
+    stepped_as (machine any) (program c) (start c) (respond_till_stop_agrees any fill)
+stepped_calls (responds_and_fills bytes fill) any =
     let c = responds_and_fills bytes fill in
     stepped_as (machine bytes) (program c) (start c) (respond_and_fill_agrees bytes fill)

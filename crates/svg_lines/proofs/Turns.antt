@@ -8,7 +8,7 @@ use lib.Dec.{ltb}
 use lib.ListN.{length, take, drop}
 use lib.Seq.{length-take-le}
 use borrow.Author.Tests.{le-ltb, lt-ltb, ne_eqb}
-use Rattle.regs.specs.Program.{if◌then◌else◌}
+use Rattle.std.specs.Prelude.{if◌then◌else◌}
 use Rattle.regs.specs.Log.{decode}
 use Rattle.bus.specs.Bus.{Sign, bus_sequence}
 use Rattle.text_hex.specs.Appended.{Appended}

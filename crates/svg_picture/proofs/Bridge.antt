@@ -8,7 +8,7 @@ use lib.Dec.{ltb}
 use lib.ListN.{length, take, length-map}
 use lib.Seq.{sets, take_all, take-take}
 use borrow.Author.Tests.{ltb-true, ltb-false}
-use Rattle.regs.specs.Program.{if◌then◌else◌}
+use Rattle.std.specs.Prelude.{if◌then◌else◌}
 use Rattle.regs.specs.declared.access.Entry.{Entry}
 use Rattle.bus.specs.Bus.{Sign, START, RESTART, STOP, address_byte, written, read_slot, bus_sequence, sign_word, sign_words}
 use Rattle.explain_bus.proofs.Signs.{sequence_held}

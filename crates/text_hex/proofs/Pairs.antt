@@ -10,7 +10,7 @@ use lib.ListN.{length, take, drop, get_or, set, length-set, drop_of_length-le}
 use lib.Seq.{drop-cons, take-suc, take-suc-set, take-set-le, take_all}
 use borrow.Author.Tests.{ltb-true, ltb-false}
 use Rattle.regs.proofs.Tests.{both_of}
-use Rattle.regs.specs.Program.{if◌then◌else◌}
+use Rattle.std.specs.Prelude.{if◌then◌else◌}
 use Rattle.text_hex.specs.Text.{LF, digit_of, Bytes, these, none, and_bytes, bytes_of}
 use Rattle.text_hex.specs.Pairs.{all_digits, whole_pairs, values, PutAt}
 

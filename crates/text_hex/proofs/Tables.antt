@@ -11,7 +11,7 @@ use lib.Dec.{eqb}
 use lib.ListN.{length, get_or}
 use borrow.Author.Tests.{eqb-true}
 use Rattle.regs.proofs.Tests.{both_of}
-use Rattle.regs.specs.Program.{if◌then◌else◌}
+use Rattle.std.specs.Prelude.{if◌then◌else◌}
 use Rattle.text_hex.specs.Text.{char_of}
 use Rattle.text_hex.specs.Pairs.{DigitPairs}
 

@@ -8,12 +8,12 @@ use lib.IntN.{ℤ, pos, negsuc}
 use lib.ListN.{length}
 use lib.Signed.{lt_z}
 use borrow.Author.Tests.{ltb-true}
-use Rattle.io.specs.Counts.{clamp_len}
 use Rattle.text_stdin.specs.Reads.{nothing, got_by, Counted, Brought}
+use Rattle.text_stdin.specs.Inner.Counted.{bytes_by}
 use Rattle.text_stdin.specs.declared.reads.End.TheVariants.{Open, Ended, Failed}
 use Rattle.text_stdin.specs.declared.reads.Got.{Got}
 
-pub open_by : (z : ℤ) (room : ℕ) {n : ℕ} → n ≡ clamp_len z room → 0 < n → record { count = n; end = Open } ≡ got_by z room
+pub open_by : (z : ℤ) (room : ℕ) {n : ℕ} → n ≡ bytes_by z room → 0 < n → record { count = n; end = Open } ≡ got_by z room
 open_by (negsuc k) room e h = absurd (omega arith)
 open_by (pos k) zero e h = absurd (omega arith)
 open_by (pos zero) (suc room) e h = absurd (omega arith)
@@ -29,7 +29,7 @@ no_room (pos k) zero e = refl
 no_room (pos k) (suc room) e = absurd (omega arith)
 
 pub ended_by : (z : ℤ) (room : ℕ) {n : ℕ}
-    → n ≡ clamp_len z room
+    → n ≡ bytes_by z room
     → n ≤ 0
     → lt_z z (pos 0) ≡ false
     → (room ≡ 0 → ⊥)

@@ -11,7 +11,7 @@ use lib.Seq.{length-take-le, take-nil}
 use borrow.Author.Tests.{ltb-true, ltb-false}
 use Rattle.text_hex.specs.Text.{LF, last_line, lines}
 use Rattle.text_stdin.specs.Reads.{is_open_at, is_ended_at, Reads, none, bytes, answered_0, failed}
-use Rattle.text_stdin.specs.Handed.{before_lf, after_lf, has_lf, unread, stands, is_line, HandedOut, last_by, lines_to}
+use Rattle.text_stdin.specs.Handed.{before_lf, after_lf, has_lf, unread, stands, HandedOut, last_by, lines_to}
 use Rattle.text_stdin.specs.declared.Source.{Source}
 use Rattle.text_stdin.specs.declared.Line.{Line}
 use Rattle.text_stdin.specs.declared.reads.End.{End}

@@ -5,7 +5,7 @@ use mathlib.Core.Bool.{Bool, true, false}
 use mathlib.Core.List.{List, [], ◌∷◌, ◌++◌, append_assoc, append-nil}
 use mathlib.Core.Path.{◌≡◌, refl, ◌∙◌}
 use lib.Dec.{eqb}
-use Rattle.regs.specs.Program.{if◌then◌else◌}
+use Rattle.std.specs.Prelude.{if◌then◌else◌}
 use Rattle.text_hex.specs.Text.{LF, lines_after, lines}
 use Rattle.text_stdin.specs.Handed.{before_lf, after_lf, has_lf, last_by, lines_to}
 use Rattle.text_stdin.specs.declared.reads.End.{End}

@@ -5,9 +5,9 @@ use mathlib.Core.Bool.{Bool, true, false}
 use mathlib.Core.List.{List, [], ◌∷◌, ◌++◌, append_assoc, append-nil}
 use mathlib.Core.Path.{◌≡◌, refl, sym, ap, ◌∙◌}
 use lib.ListN.{length, take}
-use lib.Seq.{slice, slice_empty, length-slice}
+use lib.Seq.{slice, length-slice}
 use Rattle.text_stdin.specs.Reads.{Counted, Brought, Reads, none, bytes, answered_0, failed}
-use Rattle.text_stdin.specs.Handed.{before_lf, has_lf, unread, counted, Took, HandedOut, MOST_READS, left_by, stands, is_line}
+use Rattle.text_stdin.specs.Handed.{before_lf, unread, counted, Took, HandedOut, MOST_READS, left_by, stands, is_line}
 use Rattle.text_stdin.specs.declared.Source.{Source}
 use Rattle.text_stdin.specs.declared.Part.{Part}
 use Rattle.text_stdin.specs.declared.reads.End.{End}

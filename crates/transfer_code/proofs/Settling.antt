@@ -15,7 +15,8 @@ use Rattle.regs.specs.declared.answers.Reply.{Reply}
 use Rattle.regs.specs.Registers.{DATA_CMD, legal_read}
 use Rattle.regs.specs.Fields.{command_word, cmd, stop}
 use Rattle.regs.specs.Log.{encode, reads_in, Legal, Each, Leaves, LeavesBuffer}
-use Rattle.regs.specs.Program.{if◌then◌else◌, Outcome}
+use Rattle.regs.specs.Program.{Outcome}
+use Rattle.std.specs.Prelude.{if◌then◌else◌}
 use Rattle.regs.proofs.Refine.{length_encode}
 use Rattle.regs.proofs.Tests.{by_test}
 use Rattle.master.specs.Operations.{Operation}
@@ -117,13 +118,16 @@ module _ (rest : List ℕ) where
         λ c. rw (a.0, encode_cons e (put_last c es), encode_cons e es, p, a.1 c),
       )
 
+  -- the place in the words of an entry more
+  last_step : (e : Entry) (es : List Entry)
+      → last_at (words (e ∷ es)) (suc (length es)) ≡ pushed (head e) (last_at (words es) (length es))
+  last_step e es = rw (encode_cons e es) (last_pushed (head e) (value e) (words es) (length es))
+
   agrees : (es : List Entry) → Each Legal es → Agrees es (last_at (words es) (length es))
   unfolding last_at last_data
   agrees [] h = refl
   agrees (e ∷ es) h =
-      let q : last_at (words (e ∷ es)) (suc (length es)) ≡ pushed (head e) (last_at (words es) (length es)) =
-      rw (encode_cons e es) (last_pushed (head e) (value e) (words es) (length es)) in
-      subst (Agrees (e ∷ es)) (sym q) (agrees_pushed e es h.0 (last_at (words es) (length es)) (agrees es h.1))
+      subst (Agrees (e ∷ es)) (sym (last_step e es)) (agrees_pushed e es h.0 (last_at (words es) (length es)) (agrees es h.1))
 
 -- ---- the entries with the code
 

@@ -3,7 +3,7 @@ use Prim.Native.Nat.{ℕ}
 use mathlib.Core.Bool.{Bool, true, false}
 use mathlib.Core.List.{List}
 use mathlib.Core.Path.{◌≡◌, refl}
-use Rattle.regs.specs.Program.{if◌then◌else◌}
+use Rattle.std.specs.Prelude.{if◌then◌else◌}
 use Rattle.transfer.specs.Inner.Points.{with_point}
 use Rattle.transfer.specs.Inner.Machine.{moved_to}
 use Rattle.transfer.specs.declared.Transfer.{Transfer}

@@ -7,7 +7,7 @@ use mathlib.Core.Path.{◌≡◌, refl}
 use lib.Dec.{eqb}
 use lib.ListN.{length, length-set}
 use borrow.Author.Tests.{ne_eqb}
-use Rattle.regs.specs.Program.{if◌then◌else◌}
+use Rattle.std.specs.Prelude.{if◌then◌else◌}
 use Rattle.regs.specs.Registers.{DATA_CMD}
 use Rattle.regs.specs.Inner.Machine.{entered}
 use Rattle.transfer.specs.Inner.Points.{with_point}

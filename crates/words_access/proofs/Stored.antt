@@ -7,7 +7,7 @@ use native.Mathlib.Omega.{arith}
 use borrow.Author.Tests.{ltb-true, ne_eqb}
 use lib.Dec.{eqb, ltb}
 use lib.ListN.{get_or}
-use Rattle.regs.specs.Program.{if◌then◌else◌}
+use Rattle.std.specs.Prelude.{if◌then◌else◌}
 use Rattle.regs.specs.declared.access.Store.TheVariants.{Nothing}
 use Rattle.transfer.specs.Inner.Machine.{store_at, store_of}
 use Rattle.transfer.specs.declared.Point.{Point}

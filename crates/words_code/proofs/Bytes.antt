@@ -9,7 +9,7 @@ use lib.ListN.{length, set}
 use borrow.Author.Tests.{ne_eqb}
 use Rattle.crc8.specs.Crc8.{after_byte, crc8_from}
 use Rattle.regs.specs.Fields.{cmd, dat}
-use Rattle.regs.specs.Program.{if◌then◌else◌}
+use Rattle.std.specs.Prelude.{if◌then◌else◌}
 use Rattle.regs.specs.Registers.{DATA_CMD}
 use Rattle.regs.proofs.Tests.{by_test}
 use Rattle.master.specs.Operations.{READ, WRITE}

@@ -1,0 +1,14 @@
+-- `clock::spklen_of` meets its contract.
+use Prim.Native.Nat.{◌/◌, ◌^◌}
+use lib.Bits.{and_mask}
+use Rattle.clock_setting.specs.SetConfig.{spklen}
+use borrow.Author.Tests.{le-ltb, lt-ltb}
+use Rattle.clock.proofs.spklen_of.Goals as goal
+
+pub returns-then-lcnt-lt16 : goal.returns-then-lcnt-lt16
+unfolding spklen
+returns-then-lcnt-lt16 c = simp (lt-ltb _ _ c.if-lcnt-lt16.true)
+
+pub returns-else-lcnt-lt16 : goal.returns-else-lcnt-lt16
+unfolding spklen
+returns-else-lcnt-lt16 c = rw (le-ltb _ _ c.if-lcnt-lt16.false) (and_mask (c.args.lcnt / 2 ^ 4) 8)

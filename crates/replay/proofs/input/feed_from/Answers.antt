@@ -1,0 +1,6 @@
+-- `feed_from`: `fed_part` of proofs/Moving.antt carries what `feed` says of a part of the chunk to the whole of it.
+use Rattle.replay.proofs.Moving.{fed_part}
+use Rattle.replay.proofs.input.feed_from.Goals as goal
+
+pub returns : goal.returns
+returns c = fed_part c.args.chunk.now c.args.at c.args.filled c.requires.0 c.requires.1 c.feed-f.ensures

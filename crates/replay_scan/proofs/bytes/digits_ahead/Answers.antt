@@ -1,0 +1,13 @@
+-- `digits_ahead`: the invariant is the contract's `DigitsAhead` for the k bytes passed so far; `skipped_more`
+-- of proofs/Skipped.antt adds a byte where the test found its digit below 16. `k < left` puts i + k in the
+-- chunk; `length chunk - k` decreases.
+use native.Mathlib.Omega.{arith}
+use Rattle.replay_scan.proofs.Skipped.{skipped_none, skipped_more}
+use Rattle.replay_scan.proofs.bytes.digits_ahead.Goals as goal
+
+pub loop-k-init : goal.loop-k-init
+loop-k-init c = skipped_none _ _ c.requires
+
+pub loop-k-preserved : goal.loop-k-preserved
+loop-k-preserved c = skipped_more c.loop-k.invariant (omega (arith, c.loop-k-test.true, c.requires))
+    (omega (arith, c.digit.ensures, c.if-digit-gt15.false))

@@ -1,0 +1,9 @@
+-- `words_steps::aborts::written` meets its contract.
+use mathlib.Core.Path.{refl}
+use Rattle.words_steps.proofs.Made.{made}
+use Rattle.words_steps.proofs.NoAbort.{to_send}
+use Rattle.words_steps.proofs.aborts.written.Goals as goal
+
+pub returns-then-next-words : goal.returns-then-next-words
+returns-then-next-words c = made refl refl (to_send c.args.v c.args.words.now c.sized.ensures
+    c.requires.0 c.requires.1 (c.requires.2, c.requires.3, c.if-next-words.true))
