@@ -1,5 +1,5 @@
-/* The driver's calls, as the static libraries have them that `rt staticlib export_calls` (whole calls) and `rt staticlib
- * export_steps` (a transfer by steps) write to target/staticlib.
+/* The driver's calls, as the static libraries have them: libexport_calls.a (whole calls) and libexport_steps.a (a transfer by
+ * steps), which bindings/libraries builds and leaves in target/staticlib.
  *
  * A call is given the words that its register reads return (`readings`) and leaves a log of its accesses (`log`): two words an
  * entry, the kind times 256 plus the register's offset or the mark, then the value. Kinds: 1 a read, 2 a write, 3 a mark (0 a

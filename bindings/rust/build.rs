@@ -1,8 +1,8 @@
 //! Links the static libraries of the crates `export_calls` and `export_steps`: those in the folder that `CELADONSAW_LIB` names, or
-//! those that `rt staticlib` writes.
+//! those that `../libraries` makes.
 use std::path::{Path, PathBuf};
 use std::process::Command;
-use std::{env, process};
+use std::{env, fs, process};
 
 const LIBRARIES: [&str; 2] = ["export_calls", "export_steps"];
 
@@ -12,26 +12,33 @@ fn fail(message: &str) -> ! {
 }
 
 fn built(root: &Path) -> PathBuf {
-    for name in ["crates", "crates.txt"] {
-        println!("cargo::rerun-if-changed={}", root.join(name).display());
-    }
-    for library in LIBRARIES {
-        match Command::new("rt").args(["staticlib", library]).current_dir(root).output() {
-            Ok(done) if done.status.success() => {}
-            Ok(done) => {
-                fail(&format!("rt staticlib {library}: {}", String::from_utf8_lossy(&done.stderr).replace('\n', "; ")))
+    println!("cargo::rerun-if-changed={}", root.join("crates.txt").display());
+    for part in ["src", "specs", "proofs"] {
+        for each in fs::read_dir(root.join("crates")).unwrap() {
+            let folder = each.unwrap().path().join(part);
+            if folder.is_dir() {
+                println!("cargo::rerun-if-changed={}", folder.display());
             }
-            Err(error) => fail(&format!("rt: {error}; or set CELADONSAW_LIB to the folder of the static libraries")),
         }
     }
-    root.join("target/staticlib")
+    match Command::new(root.join("bindings/libraries")).output() {
+        Ok(done) if done.status.success() => root.join("target/staticlib"),
+        Ok(done) => fail(&format!(
+            "rt lib: {}; or set CELADONSAW_LIB to the folder of the static libraries",
+            String::from_utf8_lossy(&done.stderr).trim().replace('\n', "; ")
+        )),
+        Err(error) => fail(&format!("bindings/libraries: {error}")),
+    }
 }
 
 fn main() {
     println!("cargo::rerun-if-env-changed=CELADONSAW_LIB");
     let here = PathBuf::from(env::var("CARGO_MANIFEST_DIR").unwrap());
     let folder = match env::var("CELADONSAW_LIB") {
-        Ok(given) => PathBuf::from(given),
+        Ok(given) => {
+            println!("cargo::rerun-if-changed={given}");
+            PathBuf::from(given)
+        }
         Err(_) => built(&here.join("../..")),
     };
     for library in LIBRARIES {
@@ -39,7 +46,6 @@ fn main() {
         if !file.is_file() {
             fail(&format!("no {}", file.display()));
         }
-        println!("cargo::rerun-if-changed={}", file.display());
         println!("cargo::rustc-link-lib=static={library}");
     }
     println!("cargo::rustc-link-search=native={}", folder.canonicalize().unwrap().display());
