@@ -1,13 +1,12 @@
 -- The worked examples (a) to (v) of docs/MANUAL.md, as rows of one table, and what it means that a row holds: of
 -- whole calls, with the registers' offsets as numbers.
-use Rattle.std.specs.Prelude.{ℕ, Bool, true, false, List, [], ◌∷◌, ◌≡◌, replicate}
+use Rattle.std.specs.Prelude.{ℕ, Bool, true, false, List, [], ◌∷◌, ◌≡◌, replicate, Some, None}
 use Rattle.regs.specs.Fields.{b2n}
 use Rattle.regs.specs.Program.{Outcome}
 use Rattle.regs.specs.Answers.{number, detail}
 use Rattle.regs.specs.Log.{expected, written_to}
 use Rattle.regs.specs.declared.answers.Reply.{Reply}
 use Rattle.regs.specs.declared.access.Entry.TheVariants.{Read, Write, Marked}
-use Rattle.regs_causes.specs.declared.SetCauses.TheVariants.{None, Set}
 use Rattle.regs_causes.specs.Causes.{causes_of}
 use Rattle.crc8.specs.Crc8.{crc8}
 use Rattle.clock_setting.specs.SetConfig.{set_config}
@@ -93,7 +92,7 @@ Holds (rate frequency clk n hz remainder) =
     × ((rate_hz (rated frequency clk) ≡ hz) × (rate_remainder (rated frequency clk) ≡ remainder))
 Holds (aborted pec mode lent readings n word) =
     (number (called_by pec mode 0x50 lent readings).answer ≡ n) × (detail (called_by pec mode 0x50 lent readings).answer ≡ word)
-Holds (caused word n bit) = causes_of word ≡ Set (record { count = n; lowest = bit })
+Holds (caused word n bit) = causes_of word ≡ Some (record { count = n; lowest = bit })
 Holds (without_cause word) = causes_of word ≡ None
 
 -- a data byte not acknowledged, and the causes of an abort word

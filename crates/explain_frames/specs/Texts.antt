@@ -1,5 +1,5 @@
 -- The text of a frame.
-use Rattle.std.specs.Prelude.{ℕ, ◌/◌, ◌%◌, List, [], ◌∷◌, ◌++◌, eqb, ltb, length, drop, if◌then◌else◌}
+use Rattle.std.specs.Prelude.{ℕ, ◌/◌, ◌%◌, List, [], ◌∷◌, ◌++◌, eqb, ltb, length, drop, if◌then◌else◌, Option, Some, None}
 use Rattle.text_hex.specs.Text.{LF, hex2, hex8}
 use Rattle.answer_frames.specs.declared.Frame.{Frame}
 use Rattle.answer_frames.specs.declared.Frame.TheVariants.{Read, Write, Pending, BlockReset, Buffer, Answer, Unknown}
@@ -8,14 +8,13 @@ use Rattle.text_tables.specs.Ascii.{ascii}
 use Rattle.text_tables.specs.Decimal.{digits}
 use Rattle.text_tables.specs.Rows.{cell, flags, spaced}
 use Rattle.regs_causes.specs.Causes.{causes_of}
-use Rattle.regs_causes.specs.declared.SetCauses.{SetCauses}
-use Rattle.regs_causes.specs.declared.SetCauses.TheVariants.{None, Set}
+use Rattle.regs_causes.specs.declared.Counted.{Counted}
 use Rattle.explain_frames.specs.Tables.{names, con_flags, command_flags, interrupts_flags, status_flags, aborts_flags, words, answers}
 
 -- how many causes an abort has, and the name of the lowest
-unfoldable pub counted_text : SetCauses → List ℕ
+unfoldable pub counted_text : Option Counted → List ℕ
 counted_text None = ascii "; no cause"
-counted_text (Set c) = ascii "; causes " ++ (digits 2 c.count ++ (ascii ", lowest " ++ cell aborts_flags 24 c.lowest))
+counted_text (Some c) = ascii "; causes " ++ (digits 2 c.count ++ (ascii ", lowest " ++ cell aborts_flags 24 c.lowest))
 
 -- the causes of an abort word, behind it: nothing where it is 0
 unfoldable pub causes_text : ℕ → List ℕ

@@ -3,11 +3,10 @@
 ghost use Rattle.std.specs.Prelude.{◌≡◌, ◌++◌, ◌+◌, ◌*◌, ◌<◌, ◌≤◌, length};
 ghost use Rattle.text_hex.specs.Appended.{Appended};
 ghost use Rattle.text_tables.specs.Rows.{flags};
-ghost use Rattle.regs_causes.specs.declared.SetCauses.TheVariants.{Set};
 ghost use Rattle.explain_frames.specs.Tables.{aborts_flags};
 ghost use Rattle.explain_frames.specs.Texts.{counted_text, causes_text};
 
-use regs_causes::{Counted, SetCauses, causes};
+use regs_causes::{Counted, causes};
 use text_tables::decimal::push_digits;
 use text_tables::{push_cell, push_flags, push_text};
 
@@ -16,7 +15,7 @@ fn push_counted(out: &mut [u8], at: usize, table: &[u8], c: Counted) -> usize
     requires { (at + 44 ≤ length out.old)
         × (table.now ≡ aborts_flags)
         × (c.lowest < 17) }
-    ensures { Appended out.old at (counted_text (Set c)) 44 out.new result }
+    ensures { Appended out.old at (counted_text (Some c)) 44 out.new result }
 {
     let count = c.count as u64;
     let lowest = c.lowest as usize;
@@ -35,8 +34,8 @@ fn push_causes(out: &mut [u8], at: usize, table: &[u8], w: u32) -> usize
         return at;
     }
     match causes(w) {
-        SetCauses::None => push_text(out, at, b"; no cause"),
-        SetCauses::Set(c) => push_counted(out, at, table, c),
+        None => push_text(out, at, b"; no cause"),
+        Some(c) => push_counted(out, at, table, c),
     }
 }
 

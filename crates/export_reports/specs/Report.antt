@@ -1,17 +1,16 @@
 -- What an exported call returns and leaves, in terms of the outcome of the call that it forwards to.
-use Rattle.std.specs.Prelude.{◌≡◌, ℕ, ◌*◌, Bool, true, false, List, ◌++◌, length, drop}
+use Rattle.std.specs.Prelude.{◌≡◌, ℕ, ◌*◌, Bool, true, false, List, ◌++◌, length, drop, Option, Some, None}
 use Rattle.regs.specs.Program.{Outcome}
 use Rattle.regs.specs.Log.{encode, reads_in}
 use Rattle.regs.specs.Answers.{number, detail}
 use Rattle.regs.specs.declared.access.Ran.{Ran}
 use Rattle.regs.specs.declared.answers.Reply.{Reply}
-use Rattle.regs_causes.specs.declared.SetCauses.{SetCauses}
-use Rattle.regs_causes.specs.declared.SetCauses.TheVariants as T
+use Rattle.regs_causes.specs.declared.Counted.{Counted}
 use Rattle.clock_setting.specs.BusRate.{rate_number, rate_hz, rate_remainder}
 use Rattle.clock_setting.specs.declared.Rated.{Rated}
 use Rattle.slave.specs.I2cSlave.{is_some}
 use Rattle.slave.specs.declared.Pending.{Pending}
-use Rattle.slave.specs.declared.Pending.TheVariants.{None, Byte}
+use Rattle.slave.specs.declared.Pending.TheVariants as P
 use Rattle.slave.specs.declared.SlaveState.{SlaveState}
 use Rattle.export_reports.specs.declared.AbortCauses.{AbortCauses}
 use Rattle.export_reports.specs.declared.BusRate.{BusRate}
@@ -28,15 +27,15 @@ abbrev pub rate_of : Rated → BusRate
 rate_of r = record { number = rate_number r; hz = rate_hz r; remainder = rate_remainder r }
 
 -- the causes of an abort as their count and the lowest; no cause has 0 for both
-abbrev pub cause_count : SetCauses → ℕ
-cause_count T.None = 0
-cause_count (T.Set counted) = counted.count
+abbrev pub cause_count : Option Counted → ℕ
+cause_count None = 0
+cause_count (Some counted) = counted.count
 
-abbrev pub cause_lowest : SetCauses → ℕ
-cause_lowest T.None = 0
-cause_lowest (T.Set counted) = counted.lowest
+abbrev pub cause_lowest : Option Counted → ℕ
+cause_lowest None = 0
+cause_lowest (Some counted) = counted.lowest
 
-abbrev pub cause_numbers : SetCauses → AbortCauses
+abbrev pub cause_numbers : Option Counted → AbortCauses
 cause_numbers t = record { count = cause_count t; lowest = cause_lowest t }
 
 -- r and the log after it are those of the outcome o: the entries from the log's front on, and the rest of the log as it was
@@ -56,8 +55,8 @@ pub record ReportsBuffer {S : Type 0} (o : Outcome S Reply) (before after b : Li
 
 -- coming in, the byte counts only where one is kept
 abbrev pub pending_of : Bool → ℕ → Pending
-pending_of false b = None
-pending_of true b = Byte b
+pending_of false b = P.None
+pending_of true b = P.Byte b
 
 abbrev pub state_of : Slave → SlaveState
 state_of s = record {
@@ -68,8 +67,8 @@ state_of s = record {
 
 -- going out, the place of a byte that is not kept is 0
 abbrev pub byte_of : Pending → ℕ
-byte_of None = 0
-byte_of (Byte b) = b
+byte_of P.None = 0
+byte_of (P.Byte b) = b
 
 abbrev pub numbers_of : SlaveState → Slave
 numbers_of s = record {

@@ -9,7 +9,7 @@ ghost use Rattle.export_reports.specs.Report.{pending_of, state_of, numbers_of};
 use clock_setting::Rated;
 use regs::access::Ran;
 use regs::answers::{Answer, Reply};
-use regs_causes::SetCauses;
+use regs_causes::Counted;
 use slave::{Pending, SlaveState};
 
 // What a call answers, the entries that it left in the log and the readings that it used.
@@ -89,15 +89,15 @@ pub fn told_rate(rated: Rated) -> BusRate
     }
 }
 
-pub fn told_causes(set: SetCauses) -> AbortCauses
+pub fn told_causes(set: Option<Counted>) -> AbortCauses
     ensures { result ≡ cause_numbers set }
 {
     match set {
-        SetCauses::None => AbortCauses {
+        None => AbortCauses {
             count: 0,
             lowest: 0,
         },
-        SetCauses::Set(counted) => AbortCauses {
+        Some(counted) => AbortCauses {
             count: counted.count,
             lowest: counted.lowest,
         },

@@ -11,10 +11,9 @@ use lib.Count.{ones, ones_step, count_trailing_zeros, under}
 use lib.Dec.{eqb, lit<, lit≤}
 use lib.Pow.{field, mod-mod-pow, shr-shr}
 use Rattle.regs.specs.Fields.{b2n, bit}
-use Rattle.std.specs.Prelude.{if◌then◌else◌}
+use Rattle.std.specs.Prelude.{if◌then◌else◌, Option, Some, None}
 use Rattle.regs_causes.specs.Causes.{set_from, lowest_from, CAUSES, causes_of}
-use Rattle.regs_causes.specs.declared.SetCauses.{SetCauses}
-use Rattle.regs_causes.specs.declared.SetCauses.TheVariants.{None, Set}
+use Rattle.regs_causes.specs.declared.Counted.{Counted}
 
 -- the n bits of w from bit k on
 abbrev part : ℕ → ℕ → ℕ → ℕ
@@ -74,8 +73,8 @@ unfolding ones
 ones_zero = refl
 
 -- what code computes of the masked word
-abbrev pub coded : ℕ → SetCauses
-coded m = if eqb m 0 then None else Set (record { count = ones m; lowest = count_trailing_zeros 32 m })
+abbrev pub coded : ℕ → Option Counted
+coded m = if eqb m 0 then None else Some (record { count = ones m; lowest = count_trailing_zeros 32 m })
 
 -- the low bits of a word, as a part of it
 whole : (w : ℕ) → part 0 17 w ≡ w % 2 ^ 17

@@ -10,10 +10,10 @@ use borrow.Author.Tests.{eqb-false, eqb-true, eq-eqb, ne_eqb}
 use lib.Dec.{eqb}
 use lib.Pow.{field, mod-mod-pow, mod-pow-add}
 use Rattle.regs.specs.Fields.{b2n, bit}
+use Rattle.std.specs.Prelude.{Some, None}
 use Rattle.regs_causes.specs.Causes.{set_from, lowest_from, CAUSES, causes_of}
 use Rattle.regs_causes.specs.Laws.{NoneIfClear, Lowest, SetOtherwise, OnlyLowBits, AddressNotAcknowledged, DataNotAcknowledged, Rows}
 use Rattle.regs_causes.specs.declared.Counted.{Counted}
-use Rattle.regs_causes.specs.declared.SetCauses.TheVariants.{None, Set}
 use Rattle.regs_causes.proofs.Coded.{as_coded, coded}
 
 pub only_low_bits : OnlyLowBits
@@ -74,7 +74,7 @@ unfolding causes_of
 nothing_set w z = rw (eq-eqb _ _ z)
 
 something_set : (w : ℕ) → (set_from 0 CAUSES w ≡ 0 → ⊥)
-    → causes_of w ≡ Set (record { count = set_from 0 CAUSES w; lowest = lowest_from 0 CAUSES w })
+    → causes_of w ≡ Some (record { count = set_from 0 CAUSES w; lowest = lowest_from 0 CAUSES w })
 unfolding causes_of
 something_set w some = rw (ne_eqb _ _ some)
 
@@ -121,18 +121,18 @@ three_clear l w h clear =
     mod-pow-add w 1 2 ∙ ap₂ (λ (x y : ℕ). x * 4 + y) c low
 
 -- the same of any count and lowest that a word is said to have
-pub told : (w : ℕ) (c : Counted) → causes_of w ≡ Set c → Lowest w c
+pub told : (w : ℕ) (c : Counted) → causes_of w ≡ Some c → Lowest w c
 told w c e =
-    let some : w % 2 ^ 17 ≡ 0 → ⊥ = λ z. none≢set (sym (clear→none w z) ∙ e) in
+    let some : w % 2 ^ 17 ≡ 0 → ⊥ = λ z. none≢some (sym (clear→none w z) ∙ e) in
     let t = set_otherwise w some in
-    let same : t.0 ≡ c = set_injective (sym t.1 ∙ e) in
+    let same : t.0 ≡ c = some_injective (sym t.1 ∙ e) in
     subst (λ (x : Counted). Lowest w x) same t.2
   where
-    none≢set : None ≡ Set c → ⊥
-    none≢set p = let z : ◌≡◌ {A = ℕ} 0 1 = cc in omega arith
+    none≢some : None ≡ Some c → ⊥
+    none≢some p = let z : ◌≡◌ {A = ℕ} 0 1 = cc in omega arith
 
-    set_injective : {a : Counted} → Set a ≡ Set c → a ≡ c
-    set_injective p = cc
+    some_injective : {a : Counted} → Some a ≡ Some c → a ≡ c
+    some_injective p = cc
 
 not_true : (b : Bool) → not b ≡ true → b ≡ false
 not_true true h = sym h

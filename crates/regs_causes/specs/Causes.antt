@@ -1,9 +1,8 @@
 -- The causes of an abort, bit by bit. TX_ABRT_SOURCE has a cause in each of its bits 0 to 16 (RP2040 datasheet, I2C
 -- chapter); bits 17 to 22 are reserved, and bits 23 to 31 count the words that were flushed.
-use Rattle.std.specs.Prelude.{ℕ, zero, suc, ◌+◌, eqb, if◌then◌else◌}
+use Rattle.std.specs.Prelude.{ℕ, zero, suc, ◌+◌, eqb, if◌then◌else◌, Option, Some, None}
 use Rattle.regs.specs.Fields.{b2n, bit}
-use Rattle.regs_causes.specs.declared.SetCauses.{SetCauses}
-use Rattle.regs_causes.specs.declared.SetCauses.TheVariants.{None, Set}
+use Rattle.regs_causes.specs.declared.Counted.{Counted}
 
 -- how many of the n bits of w from bit k on are set
 unfoldable pub set_from : ℕ → ℕ → ℕ → ℕ
@@ -19,7 +18,7 @@ abbrev pub CAUSES : ℕ
 CAUSES = 17
 
 -- the count of set causes and the lowest of them, or none
-unfoldable pub causes_of : ℕ → SetCauses
+unfoldable pub causes_of : ℕ → Option Counted
 causes_of w =
     if eqb (set_from 0 CAUSES w) 0 then None
-    else Set (record { count = set_from 0 CAUSES w; lowest = lowest_from 0 CAUSES w })
+    else Some (record { count = set_from 0 CAUSES w; lowest = lowest_from 0 CAUSES w })

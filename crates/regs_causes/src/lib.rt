@@ -11,21 +11,16 @@ pub struct Counted {
     pub lowest: u8,
 }
 
-#[derive(Clone, Copy)]
-pub enum SetCauses {
-    None,
-    Set(Counted),
-}
-
-// The causes are bits 0 to 16. Bits 17 to 31, reserved bits and the flush count, are no causes.
-pub fn causes(word: u32) -> SetCauses
+// The causes are bits 0 to 16; `None` where none of them is set. Bits 17 to 31, reserved bits and the flush
+// count, are no causes.
+pub fn causes(word: u32) -> Option<Counted>
     ensures { result ≡ causes_of word }
 {
     let masked = word & 0x1ffff;
     if masked == 0 {
-        return SetCauses::None;
+        return None;
     }
-    SetCauses::Set(Counted {
+    Some(Counted {
         count: u32::count_ones(masked) as u8,
         lowest: u32::trailing_zeros(masked) as u8,
     })

@@ -7,7 +7,7 @@ use borrow.Author.Tests.{ne_eqb}
 use lib.Bits.{and_mask}
 use lib.Count.{ones, ones-le, trailing_le, count_trailing_zeros}
 use Rattle.regs_causes.specs.Causes.{causes_of}
-use Rattle.regs_causes.specs.declared.SetCauses.TheVariants.{None, Set}
+use Rattle.std.specs.Prelude.{Some, None}
 use Rattle.regs_causes.proofs.Coded.{as_coded, coded}
 use Rattle.regs_causes.proofs.causes.Goals as goal
 
@@ -15,7 +15,7 @@ of_clear : (w : ℕ) → w % 2 ^ 17 ≡ 0 → causes_of w ≡ None
 of_clear w h = as_coded w ∙ ap coded h
 
 of_set : (w : ℕ) → (w % 2 ^ 17 ≡ 0 → ⊥)
-    → causes_of w ≡ Set (record { count = ones (w % 2 ^ 17); lowest = count_trailing_zeros 32 (w % 2 ^ 17) })
+    → causes_of w ≡ Some (record { count = ones (w % 2 ^ 17); lowest = count_trailing_zeros 32 (w % 2 ^ 17) })
 of_set w h = rw (as_coded w, ne_eqb _ _ h)
 
 ones_fit : (n : ℕ) → n < 2 ^ 32 → ones n < 2 ^ 8

@@ -14,14 +14,14 @@ unfolding causes_text
 returns-then-w-eq0 c = rw (eq-eqb c.args.w 0 (omega (arith, c.if-w-eq0.true))) (nothing _ _ _)
 
 pub push_counted-requires : goal.push_counted-requires
-push_counted-requires c = (search rules, search rules, (told _ _ (sym c.causes.ensures ∙ c.in-Set.is)).a_cause)
+push_counted-requires c = (search rules, search rules, (told _ _ (sym c.causes.ensures ∙ c.in-Some.is)).a_cause)
 
 pub returns-in-None : goal.returns-in-None
 unfolding causes_text counted_text
 returns-in-None c = rw (ne_eqb _ _ c.if-w-eq0.false, ← c.causes.ensures, c.in-None.is)
     (within 44 (omega arith) c.push_text.ensures)
 
-pub returns-in-Set : goal.returns-in-Set
+pub returns-in-Some : goal.returns-in-Some
 unfolding causes_text
-returns-in-Set c = rw (ne_eqb _ _ c.if-w-eq0.false, ← c.causes.ensures, c.in-Set.is)
+returns-in-Some c = rw (ne_eqb _ _ c.if-w-eq0.false, ← c.causes.ensures, c.in-Some.is)
     c.push_counted.ensures
