@@ -1,7 +1,7 @@
 // Number 20: what is over the limits is turned down before all else.
-ghost use Rattle.std.specs.Prelude.{◌≡◌, ◌&&◌, ◌+◌, ◌≤◌, length};
+ghost use Rattle.std.specs.Prelude.{◌≡◌, ◌&&◌, ◌+◌, ◌<◌, ◌^◌, ◌≤◌, length};
 ghost use Rattle.master.specs.Operations.{fits, lists};
-ghost use Rattle.i2c.specs.Inner.Limits.{add_total, add_totals, Small, add_up, refused_over};
+ghost use Rattle.i2c.specs.Inner.Limits.{sums_with, sums_of, refused_over};
 
 use regs::access::Ran;
 use regs::answers::{Answer, Refusal, Reply};
@@ -10,11 +10,26 @@ pub const MOST_BYTES: usize = 4096;
 
 pub const MOST_OPERATIONS: usize = 64;
 
-// The lengths of the writes and of the reads, added, or that a kind is neither.
-#[derive(Clone, Copy)]
-pub enum Totals {
-    Sums(usize, usize),
-    Unknown,
+// The lengths of the writes and of the reads, added.
+#[derive(Clone, Copy, PartialEq, Eq)]
+pub struct Sums {
+    pub written: usize,
+    pub room: usize,
+}
+
+impl Sums {
+    // With one operation more, if its kind is a write or a read.
+    #[tactic(auto, unfolding(crate::specs::Inner::Limits::sums_with))]
+    fn with(self, kind: u8, n: usize) -> Option<Sums>
+        requires { (self.written + n < 2 ^ 64) × (self.room + n < 2 ^ 64) }
+        ensures { result ≡ sums_with self kind n }
+    {
+        match kind {
+            1 => Some(Sums { written: self.written + n, ..self }),
+            0 => Some(Sums { room: self.room + n, ..self }),
+            _ => None,
+        }
+    }
 }
 
 pub fn refuse() -> Ran
@@ -39,67 +54,29 @@ pub fn are_fitting(m: usize, n: usize) -> bool
     is_fitting(m) & is_fitting(n)
 }
 
-fn wide(n: u16) -> usize
-    ensures { (result ≡ n)
-        × (result ≤ 65535) }
-{
-    n as usize
-}
-
-// One operation more, the k-th.
-fn add(t: Totals, k: usize, kind: u8, n: usize) -> Totals
-    requires { Small t k
-        × (k ≤ 64)
-        × (n ≤ 65535) }
-    ensures { (result ≡ add_total t kind n)
-        × Small result (k + 1) }
-{
-    match t {
-        Totals::Sums(w, r) => {
-            if kind == 1 {
-                return Totals::Sums(w + n, r);
-            }
-            if kind == 0 {
-                return Totals::Sums(w, r + n);
-            }
-            Totals::Unknown
-        }
-        Totals::Unknown => Totals::Unknown,
-    }
-}
-
-// Adds the lengths of each kind.
-fn add_all(kinds: &[u8], lengths: &[u16]) -> Totals
+// Adds the lengths of each kind; none where a kind is neither.
+fn add_all(kinds: &[u8], lengths: &[u16]) -> Option<Sums>
     requires { (length kinds.now ≡ length lengths.now)
         × (length kinds.now ≤ 64) }
-    ensures { result ≡ add_totals (Totals.Sums 0 0) kinds.now lengths.now }
+    ensures { result ≡ sums_of record { written = 0; room = 0 } kinds.now lengths.now }
 {
-    let mut t = Totals::Sums(0, 0);
-    let mut i: usize = 0;
-    while i < kinds.len() {
-        t = add(t, i, kinds[i], wide(lengths[i]));
-        i += 1;
+    let mut sums = Sums {
+        written: 0,
+        room: 0,
+    };
+    for (kind, n) in kinds.iter().zip(lengths) {
+        sums = sums.with(*kind, usize::from(*n))?;
     }
-    t
-}
-
-fn adds_up(t: Totals, written: usize, room: usize) -> bool
-    ensures { result ≡ add_up t written room }
-{
-    match t {
-        Totals::Sums(w, r) => (w == written) & ((r == room) & are_fitting(written, room)),
-        Totals::Unknown => false,
-    }
+    Some(sums)
 }
 
 // Whether kinds and lengths list operations within the limits that add up to the lent buffers.
 pub fn is_listed(kinds: &[u8], lengths: &[u16], written: usize, room: usize) -> bool
     ensures { result ≡ lists kinds.now lengths.now written room }
 {
-    if kinds.len() == lengths.len() {
-        if kinds.len() <= MOST_OPERATIONS {
-            return adds_up(add_all(kinds, lengths), written, room);
-        }
+    if kinds.len() == lengths.len() && kinds.len() <= MOST_OPERATIONS {
+        (add_all(kinds, lengths) == Some(Sums { written, room })) & are_fitting(written, room)
+    } else {
+        false
     }
-    false
 }
