@@ -17,3 +17,4 @@ pub mod Sums
 pub mod Watching
 pub mod Bounds
 pub mod Stepped
+pub mod FormsLeave

@@ -1,19 +1,19 @@
 -- The lengths of each kind, added one after the other, are the totals of the definitions.
 use Prim.Native.Nat.{ℕ, ◌+◌, ◌*◌, ◌≤◌, ◌<◌}
 use native.Mathlib.Omega.{arith}
-use native.Mathlib.Nat.{add_assoc, zero-add, add-zero}
+use native.Mathlib.Nat.{add_assoc, add-zero}
 use native.Mathlib.Numerals.{add-one}
-use mathlib.Core.Bool.{false, true, ◌&&◌}
+use mathlib.Core.Bool.{false}
 use mathlib.Core.List.{List, [], ◌∷◌}
-use mathlib.Core.Path.{◌≡◌, refl, sym, ◌∙◌}
+use mathlib.Core.Path.{◌≡◌, sym, ◌∙◌}
 use lib.Dec.{eqb}
 use lib.ListN.{length, get_or, drop, drop_of_length-le}
 use lib.Seq.{drop-cons}
 use borrow.Author.Tests.{eqb-true, ne_eqb}
 use Rattle.regs.proofs.Tests.{by_test}
-use Rattle.std.specs.Prelude.{if◌then◌else◌, Option, Some, None, option_and_then}
+use Rattle.std.specs.Prelude.{if◌then◌else◌, Some, None, option_and_then}
 use Rattle.std.proofs.lemmas.Option.{none-some, same_Some}
-use Rattle.master.specs.Operations.{total, known, fits, READ, WRITE}
+use Rattle.master.specs.Operations.{total, known, READ, WRITE}
 use Rattle.i2c.specs.Inner.Limits.{sums_with, sums_of}
 use Rattle.i2c.specs.declared.limits.Sums.{Sums}
 

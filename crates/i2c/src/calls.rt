@@ -1,97 +1,22 @@
 // The eight transfers, in the Rust's names. Each is given the lent buffers,
 // the readings and the log; what it leaves is the outcome of the Rust on them.
-ghost use Rattle.std.specs.Prelude.{[], length};
+ghost use Rattle.std.specs.Prelude.{false, [], ◌≡◌, length};
 ghost use Rattle.regs.specs.Log.{Leaves, LeavesBuffer, expected};
 ghost use Rattle.master.specs.Operations as Spec;
 ghost use Rattle.master.specs.Transfer.{read_call, write_call, write_read_call, transaction_call};
-ghost use Rattle.transfer.specs.Inner.Points.{mode_of};
 
-use super::limits::{are_fitting, is_fitting, is_listed, refuse};
+use super::forms::Way;
 use regs::access::Ran;
 use transfer::Mode;
-use transfer_run::drive;
 
-fn read_by(mode: Mode, address: u16, read: &mut [u8], readings: &[u32], log: &mut [u32]) -> Ran
-    ensures { LeavesBuffer
-        (expected (read_call (mode_of mode) address (length read.old)) log.old
-        readings.now read.old tt)
-        log.old log.new read.new result }
+// A call without a packet error code.
+fn plain(mode: Mode, address: u16) -> Way
+    ensures { result ≡ record { mode = mode; address = address; coded = false } }
 {
-    let n = read.len();
-    if is_fitting(n) {
-        let kinds = [0u8];
-        let lengths = [n as u16];
-        let t = transfer_steps::start(mode, true, address, &kinds);
-        drive(t, false, &kinds, &lengths, b"", readings, log, read)
-    } else {
-        refuse()
-    }
-}
-
-fn write_by(mode: Mode, address: u16, write: &[u8], readings: &[u32], log: &mut [u32]) -> Ran
-    ensures { Leaves
-        (expected (write_call (mode_of mode) address write.now) log.old
-        readings.now [] tt)
-        log.old log.new result }
-{
-    let n = write.len();
-    if is_fitting(n) {
-        let kinds = [1u8];
-        let lengths = [n as u16];
-        let mut none = [0u8; 0];
-        let t = transfer_steps::start(mode, true, address, &kinds);
-        drive(t, false, &kinds, &lengths, write, readings, log, &mut none)
-    } else {
-        refuse()
-    }
-}
-
-fn write_read_by(
-    mode: Mode,
-    address: u16,
-    write: &[u8],
-    read: &mut [u8],
-    readings: &[u32],
-    log: &mut [u32],
-) -> Ran
-    ensures { LeavesBuffer
-        (expected (write_read_call (mode_of mode) address write.now (length read.old))
-        log.old readings.now read.old tt)
-        log.old log.new read.new result }
-{
-    let m = write.len();
-    let n = read.len();
-    if are_fitting(m, n) {
-        let kinds = [1u8, 0u8];
-        let lengths = [m as u16, n as u16];
-        let t = transfer_steps::start(mode, true, address, &kinds);
-        drive(t, false, &kinds, &lengths, write, readings, log, read)
-    } else {
-        refuse()
-    }
-}
-
-fn transaction_by(
-    mode: Mode,
-    address: u16,
-    kinds: &[u8],
-    lengths: &[u16],
-    write: &[u8],
-    read: &mut [u8],
-    readings: &[u32],
-    log: &mut [u32],
-) -> Ran
-    ensures { LeavesBuffer
-        (expected (transaction_call (mode_of mode) address kinds.now lengths.now
-        write.now (length read.old))
-        log.old readings.now read.old tt)
-        log.old log.new read.new result }
-{
-    if is_listed(kinds, lengths, write.len(), read.len()) {
-        let t = transfer_steps::start(mode, false, address, kinds);
-        drive(t, false, kinds, lengths, write, readings, log, read)
-    } else {
-        refuse()
+    Way {
+        mode,
+        address,
+        coded: false,
     }
 }
 
@@ -102,7 +27,7 @@ pub fn blocking_read(address: u16, read: &mut [u8], readings: &[u32], log: &mut 
         readings.now read.old tt)
         log.old log.new read.new result }
 {
-    read_by(Mode::Blocking, address, read, readings, log)
+    plain(Mode::Blocking, address).read(read, readings, log)
 }
 
 // Writes the bytes to the address, and ends when it is done.
@@ -112,7 +37,7 @@ pub fn blocking_write(address: u16, write: &[u8], readings: &[u32], log: &mut [u
         readings.now [] tt)
         log.old log.new result }
 {
-    write_by(Mode::Blocking, address, write, readings, log)
+    plain(Mode::Blocking, address).write(write, readings, log)
 }
 
 // Writes the bytes to the address, then reads from it into the buffer, and ends when it is done.
@@ -128,7 +53,7 @@ pub fn blocking_write_read(
         log.old readings.now read.old tt)
         log.old log.new read.new result }
 {
-    write_read_by(Mode::Blocking, address, write, read, readings, log)
+    plain(Mode::Blocking, address).write_read(write, read, readings, log)
 }
 
 // The operations that kinds (0 a read, 1 a write) and lengths list,
@@ -148,16 +73,7 @@ pub fn transaction(
         log.old readings.now read.old tt)
         log.old log.new read.new result }
 {
-    transaction_by(
-        Mode::Blocking,
-        address,
-        kinds,
-        lengths,
-        write,
-        read,
-        readings,
-        log,
-    )
+    plain(Mode::Blocking, address).transact(kinds, lengths, write, read, readings, log)
 }
 
 // Reads from the address into the buffer, by polls.
@@ -167,7 +83,7 @@ pub fn read_async(address: u16, read: &mut [u8], readings: &[u32], log: &mut [u3
         readings.now read.old tt)
         log.old log.new read.new result }
 {
-    read_by(Mode::Async, address, read, readings, log)
+    plain(Mode::Async, address).read(read, readings, log)
 }
 
 // Writes the bytes to the address, by polls.
@@ -177,7 +93,7 @@ pub fn write_async(address: u16, write: &[u8], readings: &[u32], log: &mut [u32]
         readings.now [] tt)
         log.old log.new result }
 {
-    write_by(Mode::Async, address, write, readings, log)
+    plain(Mode::Async, address).write(write, readings, log)
 }
 
 // Writes the bytes to the address, then reads from it into the buffer, by polls.
@@ -193,7 +109,7 @@ pub fn write_read_async(
         log.old readings.now read.old tt)
         log.old log.new read.new result }
 {
-    write_read_by(Mode::Async, address, write, read, readings, log)
+    plain(Mode::Async, address).write_read(write, read, readings, log)
 }
 
 // The operations that kinds (0 a read, 1 a write) and lengths
@@ -213,14 +129,5 @@ pub fn transaction_async(
         log.old readings.now read.old tt)
         log.old log.new read.new result }
 {
-    transaction_by(
-        Mode::Async,
-        address,
-        kinds,
-        lengths,
-        write,
-        read,
-        readings,
-        log,
-    )
+    plain(Mode::Async, address).transact(kinds, lengths, write, read, readings, log)
 }

@@ -2,6 +2,7 @@
 // the same eight with a packet error code.
 #![tactic(auto)]
 
+mod forms; // the four forms of a transfer
 mod limits; // number 20
 
 pub use limits::is_listed;

@@ -25,8 +25,14 @@ impl Sums {
         ensures { result ≡ sums_with self kind n }
     {
         match kind {
-            1 => Some(Sums { written: self.written + n, ..self }),
-            0 => Some(Sums { room: self.room + n, ..self }),
+            1 => Some(Sums {
+                written: self.written + n,
+                ..self
+            }),
+            0 => Some(Sums {
+                room: self.room + n,
+                ..self
+            }),
             _ => None,
         }
     }

@@ -11,8 +11,8 @@ returns-in_err-sums c =
     let kinds = c.args.kinds.now in
     let lengths = c.args.lengths.now in
     let turn = zip_turn kinds lengths c.loop-kind.yielded c.into_iter-kind-iterator.result c.loop-kind.kind-iterator
-        c.next.new.self c.next.result (search rules) (search rules)
-        c.loop-kind.yielded_by (c.in-Some.kind, c.in-Some.n) c.in-Some.is c.next.ensures.steps in
+    c.next.new.self c.next.result (search rules) (search rules)
+    c.loop-kind.yielded_by (c.in-Some.kind, c.in-Some.n) c.in-Some.is c.next.ensures.steps in
     c.from_residual.ensures ∙ unknown kinds lengths _ _ _ _ c.loop-kind.invariant turn.0 turn.1 (turn.2 0) (c.from.ensures ∙ turn.3 0)
     (sym c.in_err-sums.was ∙ c.with.ensures)
 
@@ -21,8 +21,8 @@ loop-kind-preserved c =
     let kinds = c.args.kinds.now in
     let lengths = c.args.lengths.now in
     let turn = zip_turn kinds lengths c.loop-kind.yielded c.into_iter-kind-iterator.result c.loop-kind.kind-iterator
-        c.next.new.self c.next.result (search rules) (search rules)
-        c.loop-kind.yielded_by (c.in-Some.kind, c.in-Some.n) c.in-Some.is c.next.ensures.steps in
+    c.next.new.self c.next.result (search rules) (search rules)
+    c.loop-kind.yielded_by (c.in-Some.kind, c.in-Some.n) c.in-Some.is c.next.ensures.steps in
     simp length-append
     (adding_more kinds lengths _ _ _ _ c.loop-kind.invariant turn.0 turn.1 (turn.2 0) (c.from.ensures ∙ turn.3 0) _
     (omega (arith, c.from.ensures, c.type_inv.lengths (length c.loop-kind.yielded), turn.3 0))
@@ -33,6 +33,6 @@ returns c =
     let kinds = c.args.kinds.now in
     let lengths = c.args.lengths.now in
     let all = zip_end kinds lengths c.loop-kind.yielded c.into_iter-kind-iterator.result c.loop-kind.kind-iterator
-        c.next.new.self c.next.result (search rules) (search rules)
-        c.loop-kind.yielded_by c.in-None.is c.next.ensures.steps in
+    c.next.new.self c.next.result (search rules) (search rules)
+    c.loop-kind.yielded_by c.in-None.is c.next.ensures.steps in
     all_added kinds lengths _ _ c.loop-kind.invariant (omega (arith, all, c.requires.0))

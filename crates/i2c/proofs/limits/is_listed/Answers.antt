@@ -13,8 +13,14 @@ returns-then-kinds-le-MOST_OPERATIONS c =
     let kinds = c.args.kinds.now in
     let lengths = c.args.lengths.now in
     let same = c.if-kinds-lengths.true in
-    rw (c.eq.ensures, c.add_all.ensures, sums_are kinds lengths _ same, c.are_fitting.ensures, eq-eqb _ _ same,
-    le-leb _ _ c.if-kinds-le-MOST_OPERATIONS.true)
+    rw (
+      c.eq.ensures,
+      c.add_all.ensures,
+      sums_are kinds lengths _ same,
+      c.are_fitting.ensures,
+      eq-eqb _ _ same,
+      le-leb _ _ c.if-kinds-le-MOST_OPERATIONS.true,
+    )
     (by_test (known kinds) (λ q. rw (q, zero-add (total WRITE kinds lengths), zero-add (total READ kinds lengths))
     (and_assoc (eqb (total WRITE kinds lengths) c.args.written) (eqb (total READ kinds lengths) c.args.room)
     (fits c.args.written && fits c.args.room))) (λ q. rw q))
