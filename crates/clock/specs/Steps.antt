@@ -1,7 +1,6 @@
 -- Stepping clock setup by hand (`clock::start`, `next_access`, `advance`) leaves what `set_config` is to leave.
-use Rattle.std.specs.Prelude.{ℕ}
+use Rattle.std.specs.Prelude.{ℕ, None}
 use Rattle.regs.specs.Steps.{SteppedAs}
-use Rattle.regs.specs.declared.access.Store.TheVariants.{Nothing}
 use Rattle.clock_setting.specs.SetConfig.{set_config}
 use Rattle.clock.specs.declared.ClockPoint.{ClockPoint}
 use Rattle.clock.specs.Inner.Machine.{start_of, next_of, advance_of}
@@ -10,5 +9,5 @@ use Rattle.clock.specs.Inner.Machine.{start_of, next_of, advance_of}
 abbrev pub SteppedSetConfig : Type 0
 SteppedSetConfig = (frequency clk : ℕ)
     → SteppedAs
-    (record { S = ClockPoint; K = Unit {0}; next = next_of; advance = advance_of; store = λ p v. Nothing; state = λ p. tt })
+    (record { S = ClockPoint; K = Unit {0}; next = next_of; advance = advance_of; store = λ p v. None; state = λ p. tt })
     (λ me. start_of frequency clk) (set_config frequency clk)

@@ -13,7 +13,7 @@ ghost use Rattle.clock.specs.Inner.Machine.{range, after_disable};
 ghost use Rattle.clock.specs.Inner.Machine.{advance_of, machine};
 
 use clock_setting::{Rate, Rated};
-use regs::access::{Next, Performed, Ran};
+use regs::access::{Next, Ran, Recording};
 use regs::answers::{Answer, Refusal};
 
 // What the registers are set to.
@@ -235,24 +235,12 @@ fn drive(from: ClockPoint, readings: &[u32], log: &mut [u32]) -> Ran
         ≡ ran machine readings.now (length log.old / 2) from 0 0 log.old
         [] }
 {
+    let mut recording = Recording::new(readings, log);
     let mut p = from;
-    let mut entries: usize = 0;
-    let mut used: usize = 0;
     loop {
-        let n = next_access(p);
-        match regs::access::perform(n, readings, used, log, entries) {
-            Performed::Stopped(r) => {
-                return Ran {
-                    reply: r,
-                    entries,
-                    used,
-                };
-            }
-            Performed::Did(v, u) => {
-                p = advance(p, v);
-                used = u;
-                entries += 1;
-            }
+        match recording.perform(next_access(p)) {
+            Ok(v) => p = advance(p, v),
+            Err(reply) => return recording.ran(reply),
         }
     }
 }

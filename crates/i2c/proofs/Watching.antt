@@ -6,13 +6,12 @@ use mathlib.Core.List.{List, [], ◌∷◌}
 use mathlib.Core.Path.{◌≡◌, refl, ap}
 use lib.ListN.{set}
 use Rattle.regs.specs.Program.{Behaviour, ends, reads, writes, marks, stores, asks, keeps, cut}
-use Rattle.std.specs.Prelude.{if◌then◌else◌}
+use Rattle.std.specs.Prelude.{if◌then◌else◌, None, Some}
 use Rattle.regs.specs.Steps.{Machine, stored_in}
 use Rattle.regs.specs.Watched.{Watcher, watched_from}
 use Rattle.regs.specs.Inner.Watched.{placed, watched_machine}
 use Rattle.regs.specs.declared.access.Entry.{Entry}
-use Rattle.regs.specs.declared.access.Store.{Store}
-use Rattle.regs.specs.declared.access.Store.TheVariants.{Nothing, Byte}
+use Rattle.regs.specs.Store.{Store}
 use Rattle.regs.specs.declared.answers.Answer.{Answer}
 use Rattle.regs.proofs.Refine.{Agree, Steps}
 use Rattle.regs.proofs.Tests.{by_test}
@@ -51,8 +50,8 @@ module _ (O : Watcher) (M : Machine) (d : List ℕ) where
   Over b = over O.has_place b d
 
   stored_over : (b : List ℕ) (s : Store) → stored_in (Over b) (placed O s) ≡ Over (stored_in b s)
-  stored_over b Nothing = refl
-  stored_over b (Byte i v) = by_test (O.has_place i)
+  stored_over b None = refl
+  stored_over b (Some (i, v)) = by_test (O.has_place i)
       (λ q. rw (q, over_set O.has_place b d i v q) refl)
       (λ q. rw (q, over_kept O.has_place b d i v q) refl)
 

@@ -9,7 +9,7 @@ use Rattle.regs.specs.Program.{Behaviour, ends, reads, writes, marks, stores, as
 use Rattle.regs.specs.Steps.{Machine, stored_in}
 use Rattle.regs.specs.declared.answers.Answer.{Answer}
 use Rattle.regs.specs.declared.access.Next.{Next}
-use Rattle.regs.specs.declared.access.Store.{Store}
+use Rattle.regs.specs.Store.{Store}
 use Rattle.regs.proofs.Refine.{Agree, Steps}
 
 module _ {K S S' : Type 0} (next : S → Next) (advance : S → ℕ → S) (store : S → ℕ → Store) (state : S → K)

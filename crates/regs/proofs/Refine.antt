@@ -15,7 +15,7 @@ use lib.ListN.{length, get_or, set, drop, drop_of_length-le, length-set}
 use lib.Seq.{sets, sets-eq, drop-cons}
 use borrow.Author.Tests.{ltb-true, ltb-false}
 use Rattle.regs.specs.Program.{Behaviour, ends, reads, writes, marks, stores, asks, keeps}
-use Rattle.std.specs.Prelude.{if◌then◌else◌}
+use Rattle.std.specs.Prelude.{if◌then◌else◌, None, Some, Ok, Err}
 use Rattle.regs.specs.Program.{cut, Program, behaviour, turns, Turn, by_turn, rounds, Outcome, outcome, just}
 use Rattle.regs.specs.Program.{logged}
 use Rattle.regs.specs.Log.{encode, reads_in, Leaves, LeavesBuffer, LeavesState, LeavesAll, expected}
@@ -28,10 +28,8 @@ use Rattle.regs.specs.declared.access.Ran.{Ran}
 use Rattle.regs.specs.declared.access.Entry.{Entry}
 use Rattle.regs.specs.declared.access.Entry.TheVariants as E
 use Rattle.regs.specs.declared.access.Next.TheVariants.{Read, Write, Mark, Finished}
-use Rattle.regs.specs.declared.access.Store.{Store}
-use Rattle.regs.specs.declared.access.Store.TheVariants.{Nothing, Byte}
-use Rattle.regs.specs.declared.access.Performed.{Performed}
-use Rattle.regs.specs.declared.access.Performed.TheVariants.{Did, Stopped}
+use Rattle.regs.specs.Store.{Store}
+use Rattle.regs.specs.Store.{Performed}
 
 module _ (M : Machine) where
   -- the machine's buffer and state are those of the behaviour
@@ -194,8 +192,8 @@ module _ (M : Machine) where
 
   -- an access that takes a reading: with one left, and with none
   with_reading : (rs : List ℕ) (u r : ℕ) (P : List ℕ → Performed → Type 0)
-      → (u < length rs → P (get_or rs u 0 ∷ drop (u + 1) rs) (Did (get_or rs u 0) (u + 1)))
-      → (length rs ≤ u → P [] (Stopped OutOfReadings))
+      → (u < length rs → P (get_or rs u 0 ∷ drop (u + 1) rs) (Ok ((get_or rs u 0), (u + 1))))
+      → (length rs ≤ u → P [] (Err OutOfReadings))
       → P (drop u rs) (taken rs u (Read r))
   with_reading rs u r P some none = go (ltb u (length rs)) refl
     where
@@ -247,8 +245,8 @@ module _ (M : Machine) where
 
 -- what is done with an access leaves the buffer as long as it was
 pub length_stored : (b : List ℕ) (e : Store) → length (stored_in b e) ≡ length b
-length_stored b Nothing = refl
-length_stored b (Byte i v) = length-set b i v
+length_stored b None = refl
+length_stored b (Some (i, v)) = length-set b i v
 
 -- no more entries than there is room for
 outcome_fits : {K : Type 0} (t : Behaviour K Answer) (room : ℕ) (rs b : List ℕ) (z : K)

@@ -7,7 +7,7 @@ use mathlib.Core.List.{List, [], ◌∷◌, ◌++◌}
 use mathlib.Core.Path.{◌≡◌, refl, sym, ap, ◌∙◌}
 use lib.ListN.{length}
 use Rattle.regs.specs.Program.{Behaviour, Program, ends, Outcome, just, logged, outcome}
-use Rattle.std.specs.Prelude.{if◌then◌else◌}
+use Rattle.std.specs.Prelude.{if◌then◌else◌, None, Some}
 use Rattle.regs.specs.Steps.{Machine, stored_in, stepped, without_room, with_room, SteppedAs}
 use Rattle.regs.specs.Watched.{Watcher, watched, watched_from}
 use Rattle.regs.specs.Inner.Watched.{changed, longer_log, placed, watched_machine}
@@ -16,8 +16,7 @@ use Rattle.regs.specs.declared.access.Entry.{Entry}
 use Rattle.regs.specs.declared.access.Entry.TheVariants as E
 use Rattle.regs.specs.declared.access.Next.{Next}
 use Rattle.regs.specs.declared.access.Next.TheVariants.{Read, Write, Mark, Finished}
-use Rattle.regs.specs.declared.access.Store.{Store}
-use Rattle.regs.specs.declared.access.Store.TheVariants.{Nothing, Byte}
+use Rattle.regs.specs.Store.{Store}
 use Rattle.regs.specs.declared.answers.Answer.{Answer}
 use Rattle.regs.specs.declared.answers.Reply.{Reply}
 use Rattle.regs.specs.declared.answers.Reply.TheVariants.{Answered, LogFull, OutOfReadings}
@@ -30,8 +29,8 @@ module _ {D : Type 0} (X : Summer D) (d : D) (sum : List Entry → D) (O : Watch
   -- ---- the machine with the log
 
   stored_same : (b : List ℕ) (s : Store) → stored_in b (placed O s) ≡ stored_in b s
-  stored_same b Nothing = refl
-  stored_same b (Byte i v) = ap (λ (q : Bool). stored_in b (if q then Byte i v else Nothing)) (h.places i)
+  stored_same b None = refl
+  stored_same b (Some (i, v)) = ap (λ (q : Bool). stored_in b (if q then Some (i, v) else None)) (h.places i)
 
   -- at a point with this log, and at that with its sum
   abbrev by_log : ℕ → List Entry → M.S → List ℕ → List ℕ → Outcome M.K Reply

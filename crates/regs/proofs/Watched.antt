@@ -1,5 +1,6 @@
 -- A watched machine does what the watched program does, over any machine and watcher. It rests on the agreement of the
 -- machine and the program (`Agree`), and on a buffer that has no place where the watcher has none.
+use Rattle.std.specs.Prelude.{None, Some}
 use Prim.Native.Nat.{ℕ, zero, suc, ◌≤◌}
 use native.Mathlib.Omega.{arith}
 use mathlib.Core.Bool.{false}
@@ -11,8 +12,7 @@ use Rattle.regs.specs.Steps.{Machine, stored_in}
 use Rattle.regs.specs.Watched.{Watcher, watched_from}
 use Rattle.regs.specs.Inner.Watched.{placed, watched_machine}
 use Rattle.regs.specs.declared.access.Entry.{Entry}
-use Rattle.regs.specs.declared.access.Store.{Store}
-use Rattle.regs.specs.declared.access.Store.TheVariants.{Nothing, Byte}
+use Rattle.regs.specs.Store.{Store}
 use Rattle.regs.specs.declared.answers.Answer.{Answer}
 use Rattle.regs.proofs.Refine.{Agree, Steps}
 use Rattle.regs.proofs.Tests.{by_test}
@@ -29,12 +29,12 @@ module _ (O : Watcher) (M : Machine) where
   Placed n = (i : ℕ) → O.has_place i ≡ false → n ≤ i
 
   placed_same : (b : List ℕ) (s : Store) → Placed (length b) → stored_in b (placed O s) ≡ stored_in b s
-  placed_same b Nothing h = refl
-  placed_same b (Byte i v) h = by_test (O.has_place i) (λ e. rw e refl) (λ e. rw e (sym (set_beyond b i v (h i e))))
+  placed_same b None h = refl
+  placed_same b (Some (i, v)) h = by_test (O.has_place i) (λ e. rw e refl) (λ e. rw e (sym (set_beyond b i v (h i e))))
 
   stored_length : (b : List ℕ) (s : Store) → length (stored_in b s) ≡ length b
-  stored_length b Nothing = refl
-  stored_length b (Byte i v) = length-set b i v
+  stored_length b None = refl
+  stored_length b (Some (i, v)) = length-set b i v
 
   steps_watched : (m : ℕ) (log : List Entry) (s : M.S) (b c : List ℕ) (z : M.K) (t : Behaviour M.K Answer)
       → Placed (length b)

@@ -2,3 +2,4 @@
 pub mod Machine
 pub mod Watched
 pub mod Summed
+pub mod Recording

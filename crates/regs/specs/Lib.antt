@@ -5,6 +5,7 @@ pub mod Program
 pub mod Answers
 pub mod Log
 pub mod Bounds
+pub mod Store
 pub mod Steps
 pub mod Left
 pub mod Watched

@@ -1,6 +1,6 @@
 -- Stepping by hand: what a caller's loop over a driver's steps leaves, and when that is what the whole call is to leave.
 -- The steps are four functions of a point. What these functions are need not be believed: `SteppedAs` holds them to a program.
-use Rattle.std.specs.Prelude.{ℕ, zero, suc, ◌/◌, List, [], ◌∷◌, ◌≡◌, length, set}
+use Rattle.std.specs.Prelude.{ℕ, zero, suc, ◌/◌, List, [], ◌∷◌, ◌≡◌, length, set, None, Some}
 use Rattle.regs.specs.Program.{Program, Outcome, just, logged}
 use Rattle.regs.specs.Log.{expected}
 use Rattle.regs.specs.declared.answers.Answer.{Answer}
@@ -9,8 +9,7 @@ use Rattle.regs.specs.declared.answers.Reply.TheVariants.{Answered, LogFull, Out
 use Rattle.regs.specs.declared.access.Entry.TheVariants as E
 use Rattle.regs.specs.declared.access.Next.{Next}
 use Rattle.regs.specs.declared.access.Next.TheVariants.{Read, Write, Mark, Finished}
-use Rattle.regs.specs.declared.access.Store.{Store}
-use Rattle.regs.specs.declared.access.Store.TheVariants.{Nothing, Byte}
+use Rattle.regs.specs.Store.{Store}
 
 -- the points S, with the access that is next at each, where a reading leads, what is done to the lent buffer with
 -- it, and the driver's own state K
@@ -24,8 +23,8 @@ pub record Machine : Type 1 where
 
 -- the lent buffer after an access
 abbrev pub stored_in : List ℕ → Store → List ℕ
-stored_in b Nothing = b
-stored_in b (Byte i v) = set b i v
+stored_in b None = b
+stored_in b (Some (i, v)) = set b i v
 
 -- the caller has no room for another access: the answer where the call is at its end, else 19
 unfoldable pub without_room : {K : Type 0} → Next → List ℕ → K → Outcome K Reply

@@ -1,8 +1,9 @@
 // One access: which is next, performed against the readings and the log,
 // what is done to the lent buffer with it, and its entry in the log.
-ghost use Rattle.std.specs.Prelude.{◌≡◌, ◌/◌, ◌<◌, ltb, length};
+ghost use Rattle.std.specs.Prelude.{◌≡◌, ◌+◌, ◌/◌, ◌<◌, ltb, length};
 ghost use Rattle.regs.specs.Log.{entry};
 ghost use Rattle.regs.specs.Inner.Machine.{head_of, value_of, taken, at_full, performed, log_after};
+ghost use Rattle.regs.specs.Inner.Recording.{Enters, Performs, room_of};
 ghost use Rattle.regs.specs.Steps.{stored_in};
 
 use super::answers::{Answer, Reply};
@@ -17,12 +18,8 @@ pub enum Next {
     Finished(Answer),
 }
 
-// What is done to the lent buffer with an access: nothing, or a byte is put at an index.
-#[derive(Clone, Copy)]
-pub enum Store {
-    Nothing,
-    Byte(usize, u8),
-}
+// What is done to the lent buffer with an access: a byte is put at an index, or nothing.
+pub type Store = Option<(usize, u8)>;
 
 // An entry of the log: a register's offset with the word read or written, or a mark.
 #[derive(Clone, Copy)]
@@ -30,14 +27,6 @@ pub enum Entry {
     Read(u8, u32),
     Write(u8, u32),
     Marked(u8),
-}
-
-// An access was performed: the reading that it took, 0 where it
-// takes none, and the readings used so far. Or the run stops.
-#[derive(Clone, Copy)]
-pub enum Performed {
-    Did(u32, usize),
-    Stopped(Reply),
 }
 
 // What a run leaves beside the log, the buffer and the state.
@@ -48,123 +37,186 @@ pub struct Ran {
     pub used: usize,
 }
 
-fn wide(b: u8) -> u32
-    ensures { result ≡ b }
-{
-    b as u32
-}
-
-fn head(n: Next) -> u32
-    ensures { result ≡ head_of n }
-{
-    match n {
-        Next::Read(r) => 0x100 + wide(r),
-        Next::Write(r, _) => 0x200 + wide(r),
-        Next::Mark(k) => 0x300 + wide(k),
-        Next::Finished(_) => 0,
-    }
-}
-
-fn value(n: Next, v: u32) -> u32
-    ensures { result ≡ value_of n v }
-{
-    match n {
-        Next::Read(_) => v,
-        Next::Write(_, x) => x,
-        Next::Mark(_) => 0,
-        Next::Finished(_) => 0,
-    }
-}
-
-// Whether a reading is left, of so many.
-fn has_reading(count: usize, used: usize) -> bool
-    ensures { result ≡ ltb used count }
-{
-    used < count
-}
-
-// Whether a log of so many words has room for one more entry.
-fn has_room(words: usize, entries: usize) -> bool
-    ensures { result ≡ ltb entries (words / 2) }
-{
-    entries < words / 2
-}
-
-fn take_reading(readings: &[u32], used: usize) -> Performed
-    ensures { result ≡ taken readings.now used (Next.Read 0) }
-{
-    if has_reading(readings.len(), used) {
-        let v = readings[used];
-        Performed::Did(v, used + 1)
-    } else {
-        Performed::Stopped(Reply::OutOfReadings)
-    }
-}
-
-// An access that the log has room for.
-fn take(n: Next, readings: &[u32], used: usize) -> Performed
-    ensures { result ≡ taken readings.now used n }
-{
-    match n {
-        Next::Read(_) => take_reading(readings, used),
-        Next::Write(_, _) => Performed::Did(0, used),
-        Next::Mark(_) => Performed::Did(0, used),
-        Next::Finished(a) => Performed::Stopped(Reply::Answered(a)),
-    }
-}
-
-fn refuse(n: Next) -> Reply
-    ensures { result ≡ at_full n }
-{
-    match n {
-        Next::Read(_) => Reply::LogFull,
-        Next::Write(_, _) => Reply::LogFull,
-        Next::Mark(_) => Reply::LogFull,
-        Next::Finished(a) => Reply::Answered(a),
-    }
-}
-
-// Puts the entry of an access into the log, where the access was done.
-fn enter(log: &mut [u32], k: usize, n: Next, p: Performed)
-    requires { k < length log.old / 2 }
-    ensures { log.new ≡ log_after p log.old k n }
-{
-    match p {
-        Performed::Did(v, _) => {
-            let at = k * 2;
-            log[at] = head(n);
-            log[at + 1] = value(n, v);
+impl Next {
+    // The first word of the access's entry in the log.
+    fn head(self) -> u32
+        ensures { result ≡ head_of self }
+    {
+        match self {
+            Next::Read(register) => 0x100 + u32::from(register),
+            Next::Write(register, _) => 0x200 + u32::from(register),
+            Next::Mark(mark) => 0x300 + u32::from(mark),
+            Next::Finished(_) => 0,
         }
-        Performed::Stopped(_) => {}
+    }
+
+    // The second word, where v was read.
+    fn value(self, v: u32) -> u32
+        ensures { result ≡ value_of self v }
+    {
+        match self {
+            Next::Read(_) => v,
+            Next::Write(_, word) => word,
+            Next::Mark(_) | Next::Finished(_) => 0,
+        }
+    }
+
+    // The reply where the log is full.
+    fn refused(self) -> Reply
+        ensures { result ≡ at_full self }
+    {
+        match self {
+            Next::Finished(answer) => Reply::Answered(answer),
+            Next::Read(_) | Next::Write(_, _) | Next::Mark(_) => Reply::LogFull,
+        }
     }
 }
 
-// Performs an access: 19 where the log is full, then 18 where a
-// reading is wanted and none is left, else the entry is in the log.
-pub fn perform(n: Next, readings: &[u32], used: usize, log: &mut [u32], entries: usize) -> Performed
+// What a run is given and what it has made so far: the readings, with how many
+// of them are used, and the log, with how many entries are in it.
+#[derive(Drop)]
+pub struct Recording<'a> {
+    pub readings: &'a [u32],
+    pub used: usize,
+    pub log: &'a mut [u32],
+    pub entries: usize,
+}
+
+impl<'a> Recording<'a> {
+    // Before the first access.
+    pub fn new(readings: &'a [u32], log: &'a mut [u32]) -> Recording<'a>
+        ensures loan { result.log.ghost_name ≡ log.entry.ghost_name }
+        ensures readings { result.readings.now ≡ readings.now }
+        ensures used { result.used ≡ 0 }
+        ensures log { result.log.now ≡ log.old }
+        ensures entries { result.entries ≡ 0 }
+    {
+        Recording {
+            readings,
+            used: 0,
+            log,
+            entries: 0,
+        }
+    }
+
+    // What a run leaves that ends with a reply here.
+    pub fn ran(&self, reply: Reply) -> Ran
+        ensures reply { result.reply ≡ reply }
+        ensures entries { result.entries ≡ self.now.entries }
+        ensures used { result.used ≡ self.now.used }
+    {
+        Ran {
+            reply,
+            entries: self.entries,
+            used: self.used,
+        }
+    }
+
+    // Whether a reading is left.
+    fn has_reading(&self) -> bool
+        ensures { result ≡ ltb self.now.used (length self.now.readings.now) }
+    {
+        self.used < self.readings.len()
+    }
+
+    // Whether the log has room for one more entry.
+    fn has_room(&self) -> bool
+        ensures { result ≡ ltb self.now.entries (room_of self.now) }
+    {
+        self.entries < self.log.len() / 2
+    }
+
+    // The reading that an access takes, 0 where it takes none, and the readings used then.
+    fn taken(&self, next: Next) -> Result<(u32, usize), Reply>
+        ensures { result ≡ taken self.now.readings.now self.now.used next }
+    {
+        match next {
+            Next::Read(_) if self.has_reading() => Ok((self.readings[self.used], self.used + 1)),
+            Next::Read(_) => Err(Reply::OutOfReadings),
+            Next::Write(_, _) | Next::Mark(_) => Ok((0, self.used)),
+            Next::Finished(answer) => Err(Reply::Answered(answer)),
+        }
+    }
+
+    // Puts an entry behind those that there are.
+    fn put(&mut self, head: u32, value: u32)
+        requires { self.old.entries < room_of self.old }
+        ensures { Enters self.old head value self.new }
+    {
+        let at = self.entries * 2;
+        self.log[at] = head;
+        self.log[at + 1] = value;
+        self.entries += 1;
+    }
+
+    // A register was read.
+    pub fn put_read(&mut self, register: u8, v: u32)
+        requires { self.old.entries < room_of self.old }
+        ensures { Enters self.old (0x100 + register) v self.new }
+    {
+        self.put(0x100 + u32::from(register), v);
+    }
+
+    // A register was written.
+    pub fn put_write(&mut self, register: u8, v: u32)
+        requires { self.old.entries < room_of self.old }
+        ensures { Enters self.old (0x200 + register) v self.new }
+    {
+        self.put(0x200 + u32::from(register), v);
+    }
+
+    // A mark was made.
+    pub fn put_mark(&mut self, mark: u8)
+        requires { self.old.entries < room_of self.old }
+        ensures { Enters self.old (0x300 + mark) 0 self.new }
+    {
+        self.put(0x300 + u32::from(mark), 0);
+    }
+
+    // Performs an access: 19 where the log is full, then 18 where a reading is
+    // wanted and none is left, else the entry is in the log.
+    pub fn perform(&mut self, next: Next) -> Result<u32, Reply>
+        ensures { Performs self.old next result self.new }
+    {
+        if !self.has_room() {
+            return Err(next.refused());
+        }
+        let (v, used) = self.taken(next)?;
+        self.put(next.head(), next.value(v));
+        self.used = used;
+        Ok(v)
+    }
+}
+
+// The same with the four values of a recording apart.
+pub fn perform(
+    n: Next,
+    readings: &[u32],
+    used: usize,
+    log: &mut [u32],
+    entries: usize,
+) -> Result<(u32, usize), Reply>
     ensures { (result ≡ performed readings.now used entries (length log.old / 2) n)
         × (log.new ≡ log_after result log.old entries n) }
 {
-    if has_room(log.len(), entries) {
-        let p = take(n, readings, used);
-        enter(log, entries, n, p);
-        p
-    } else {
-        Performed::Stopped(refuse(n))
-    }
+    let mut recording = Recording {
+        readings,
+        used,
+        log,
+        entries,
+    };
+    let v = recording.perform(n)?;
+    Ok((v, recording.used))
 }
 
 // Does to the lent buffer what is done with an access; an index past its end is no place.
-pub fn keep(buffer: &mut [u8], e: Store)
-    ensures { buffer.new ≡ stored_in buffer.old e }
+pub fn keep(buffer: &mut [u8], store: Store)
+    ensures { buffer.new ≡ stored_in buffer.old store }
 {
-    match e {
-        Store::Nothing => {}
-        Store::Byte(i, b) => {
-            if i < buffer.len() {
-                buffer[i] = b;
-            }
-        }
+    if let Some((at, byte)) = store
+        && at < buffer.len()
+    {
+        buffer[at] = byte;
     }
 }
 
@@ -172,12 +224,9 @@ pub fn keep(buffer: &mut [u8], e: Store)
 pub fn entry_of(head: u32, value: u32) -> Entry
     ensures { result ≡ entry head value }
 {
-    let kind = head >> 8;
-    if kind == 1 {
-        Entry::Read(byte_of(head), value)
-    } else if kind == 2 {
-        Entry::Write(byte_of(head), value)
-    } else {
-        Entry::Marked(byte_of(head))
+    match head >> 8 {
+        1 => Entry::Read(byte_of(head), value),
+        2 => Entry::Write(byte_of(head), value),
+        _ => Entry::Marked(byte_of(head)),
     }
 }

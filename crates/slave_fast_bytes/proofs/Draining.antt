@@ -1,4 +1,5 @@
 -- `listen`, byte after byte.
+use Rattle.std.specs.Prelude.{Some}
 use Prim.Native.Nat.{ℕ, ◌+◌, ◌/◌, ◌-◌, ◌<◌, ◌≤◌, ◌^◌}
 use native.Mathlib.Omega.{arith}
 use mathlib.Core.Bool.{true, false, not, ◌&&◌}
@@ -11,7 +12,6 @@ use Rattle.regs.proofs.Tests.{both_of}
 use Rattle.regs.specs.Registers.{STATUS, DATA_CMD}
 use Rattle.regs.specs.Fields.{rfne, first_data_byte, dat}
 use Rattle.regs.specs.Inner.Machine.{entered}
-use Rattle.regs.specs.declared.access.Store.TheVariants as S
 use Rattle.slave.specs.declared.SlaveState.{SlaveState}
 use Rattle.slave_listen.specs.declared.ListenPoint.TheVariants.{Status, DataCmd}
 use Rattle.slave_steps.specs.Inner.Machine.{machine, slave}
@@ -45,7 +45,7 @@ module _ (bytes : List ℕ) {readings : List ℕ} (me : SlaveState) {s₀ : Slav
       ≡ slave me places (Listening (Status stat (i + 1))) =
       rw (this, lt-ltb i places (omega (arith, more)), lt-ltb (i + 1) places more) in
       let w : M.store (slave me places (Listening (DataCmd stat i))) (get_or readings (u + 1) 0)
-      ≡ S.Byte i (dat (get_or readings (u + 1) 0)) = rw (this, lt-ltb i places (omega (arith, more))) in
+      ≡ Some (i, dat (get_or readings (u + 1) 0)) = rw (this, lt-ltb i places (omega (arith, more))) in
       rw w at (did_read g₁ refl (omega (arith, room)) (omega (arith, left)) a₂ q v)
 
 -- how far the bytes came

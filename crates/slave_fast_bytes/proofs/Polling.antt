@@ -1,4 +1,5 @@
 -- `listen`, poll after poll.
+use Rattle.std.specs.Prelude as O
 use Prim.Native.Nat.{ℕ, ◌+◌, ◌/◌, ◌<◌, ◌≤◌, ◌^◌}
 use native.Mathlib.Omega.{arith}
 use mathlib.Core.Bool.{true, false, not, ◌&&◌, and-false}
@@ -12,7 +13,6 @@ use Rattle.regs.specs.Registers.{STATUS, RX_TL, INTR_MASK, RAW_INTR_STAT, RXFLR}
 use Rattle.regs.specs.Program.{PENDING}
 use Rattle.regs.specs.Fields.{rfne, rd_req, stop_det, level}
 use Rattle.regs.specs.Inner.Machine.{entered}
-use Rattle.regs.specs.declared.access.Store.TheVariants as S
 use Rattle.slave.specs.declared.SlaveState.{SlaveState}
 use Rattle.slave.specs.declared.Pending.TheVariants.{None}
 use Rattle.slave_listen.specs.declared.ListenPoint.TheVariants.{Status, Watermark, IntrMask, RawIntrStat, Rxflr}
@@ -66,7 +66,7 @@ module _ (bytes : List ℕ) {readings : List ℕ} (me : SlaveState) (none : me.p
       ≡ slave me places (Listening (Status (get_or readings u 0) i)) =
       rw (none, lt-ltb 0 (level (get_or readings (u + 1) 0)) filled, lt-ltb i places more) in
       let w : M.store (slave me places (Listening (Rxflr (get_or readings u 0) i))) (get_or readings (u + 1) 0)
-      ≡ S.Nothing = rw (none, lt-ltb 0 (level (get_or readings (u + 1) 0)) filled) in
+      ≡ O.None = rw (none, lt-ltb 0 (level (get_or readings (u + 1) 0)) filled) in
       rw w at (did_read g₁ refl (omega (arith, room)) (omega (arith, left)) a q v)
 
 -- a poll that leads straight on

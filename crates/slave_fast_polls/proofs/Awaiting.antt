@@ -1,4 +1,5 @@
 -- Polls of `listen` that find nothing.
+use Rattle.std.specs.Prelude as O
 use Prim.Native.Nat.{ℕ, ◌+◌, ◌/◌, ◌-◌, ◌<◌, ◌≤◌, ◌^◌}
 use native.Mathlib.Omega.{arith}
 use mathlib.Core.Bool.{true, not, ◌&&◌, and-false}
@@ -12,7 +13,6 @@ use Rattle.regs.specs.Program.{PENDING}
 use Rattle.regs.specs.Registers.{RAW_INTR_STAT, RXFLR, INTR_MASK}
 use Rattle.regs.specs.Fields.{rd_req, stop_det, level}
 use Rattle.regs.specs.Inner.Machine.{entered}
-use Rattle.regs.specs.declared.access.Store.TheVariants as S
 use Rattle.slave.specs.declared.SlaveState.{SlaveState}
 use Rattle.slave.specs.declared.Pending.TheVariants.{None}
 use Rattle.slave_listen.specs.declared.ListenPoint.TheVariants.{RawIntrStat, Rxflr, IntrMask}
@@ -55,7 +55,7 @@ module _ (bytes : List ℕ) {readings : List ℕ} (me : SlaveState) (none : me.p
         and-false,
         and-false,
       ) in
-      let w₂ : M.store (slave me places (Listening (Rxflr stat i))) filled ≡ S.Nothing =
+      let w₂ : M.store (slave me places (Listening (Rxflr stat i))) filled ≡ O.None =
       rw (none, le-ltb 0 (level filled) (omega (arith, empty))) in
       let g₂ = rw w₂ at (did_read g₁ refl (omega (arith, room)) (omega (arith, left)) a₂ q₂ v₂) in
       let q₃ : e + 3 ≡ e + 2 + 1 = omega arith in

@@ -40,7 +40,7 @@ pub fn after_level(stat: u32, len: u16, pending: Pending, v: u32, length: u16) -
             Listened {
                 point: drain_from(stat, len + 1, length),
                 pending: Pending::None,
-                store: Store::Byte(wide(len), b),
+                store: Some((wide(len), b)),
             }
         } else {
             super::stay(Pending::None, drain_from(stat, len, length))
@@ -78,7 +78,7 @@ pub fn after_data(stat: u32, offset: u16, pending: Pending, v: u32, length: u16)
         return Listened {
             point: drain_from(stat, offset + 1, length),
             pending,
-            store: Store::Byte(wide(offset), fields::byte_of(v)),
+            store: Some((wide(offset), fields::byte_of(v))),
         };
     }
     super::stay(pending, ListenPoint::Watermark(stat, offset))

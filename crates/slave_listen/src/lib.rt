@@ -129,7 +129,7 @@ pub fn stay(pending: Pending, point: ListenPoint) -> Listened
     Listened {
         point,
         pending,
-        store: Store::Nothing,
+        store: None,
     }
 }
 

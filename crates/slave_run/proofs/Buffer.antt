@@ -6,13 +6,11 @@ use mathlib.Core.Path.{◌≡◌, refl, sym, ◌∙◌}
 use lib.Dec.{eqb, ltb}
 use lib.ListN.{length}
 use Rattle.regs.proofs.Tests.{false_true}
-use Rattle.std.specs.Prelude.{if◌then◌else◌}
+use Rattle.std.specs.Prelude.{if◌then◌else◌, None, Ok, Err}
 use Rattle.regs.specs.Inner.Machine.{Final, final, ran, taken, by_performed, entered, head_of, value_of}
 use Rattle.regs.specs.Steps.{stored_in}
-use Rattle.regs.specs.declared.access.Performed.{Performed}
-use Rattle.regs.specs.declared.access.Performed.TheVariants.{Did, Stopped}
+use Rattle.regs.specs.Store.{Performed}
 use Rattle.regs.specs.declared.access.Ran.{Ran}
-use Rattle.regs.specs.declared.access.Store.TheVariants.{Nothing}
 use Rattle.slave.specs.declared.SlaveState.{SlaveState}
 use Rattle.slave_steps.specs.Inner.Machine.{machine, next_at, advance_at}
 use Rattle.slave_steps.specs.declared.Slave.{Slave}
@@ -44,7 +42,7 @@ starts_quiet (RespondAndFill fill) me n m e = either_quiet (ltb 4096 n) _ _ refl
 
 stays_quiet : (p : Point) (me : SlaveState) (n v : ℕ)
     → quiet p ≡ true
-    → (quiet (advance_at p me n v).slave.point ≡ true) × ((advance_at p me n v).store ≡ Nothing)
+    → (quiet (advance_at p me n v).slave.point ≡ true) × ((advance_at p me n v).store ≡ None)
 stays_quiet (Q.Refused why) me n v e = (refl, refl)
 stays_quiet (Q.BlockReset a g) me n v e = (refl, refl)
 stays_quiet (Q.Resetting p) me n v e = (refl, refl)
@@ -70,8 +68,8 @@ module _ (bytes rs : List ℕ) where
           (entered l k (head_of ((machine bytes).next s)) (value_of ((machine bytes).next s) v))
           (stored_in b ((machine bytes).store s v)))
           (λ r. final r k u l b s.state)).buffer ≡ b
-      go (Did v u') h = h v u' _
-      go (Stopped r) h = refl
+      go (Ok (v, u')) h = h v u' _
+      go (Err r) h = refl
 
 pub buffer_kept : BufferKept
 buffer_kept q e bytes buffer log readings me =

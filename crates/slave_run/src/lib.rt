@@ -9,7 +9,7 @@ ghost use Rattle.slave_steps.specs.Inner.Machine.{machine};
 ghost use Rattle.slave_run.specs.Requests.{left_by};
 ghost use Rattle.slave_run.specs.Inner.Starts.{started};
 
-use regs::access::{Performed, Ran};
+use regs::access::Ran;
 use slave::SlaveState;
 use slave_steps::Slave;
 
@@ -50,7 +50,7 @@ pub fn run(from: Slave, bytes: &[u8], readings: &[u32], log: &mut [u32], buffer:
         entries = a.entries;
         let n = slave_steps::next_access(p, bytes);
         match regs::access::perform(n, readings, used, log, entries) {
-            Performed::Stopped(r) => {
+            Err(r) => {
                 let state = p.state;
                 return Left {
                     state,
@@ -61,7 +61,7 @@ pub fn run(from: Slave, bytes: &[u8], readings: &[u32], log: &mut [u32], buffer:
                     },
                 };
             }
-            Performed::Did(v, u) => {
+            Ok((v, u)) => {
                 let m = slave_steps::advance(p, v);
                 let e = m.store;
                 regs::access::keep(buffer, e);

@@ -176,7 +176,7 @@ fn configure(state: SlaveState, length: u16, address: u16, general_call: bool) -
         configured,
         length,
         Point::Resetting(ResetPoint::Disable),
-        Store::Nothing,
+        None,
     )
 }
 
@@ -204,20 +204,20 @@ pub fn advance(s: Slave, v: u32) -> Moved
     let state = s.state;
     let length = s.length;
     match point {
-        Point::Refused(why) => move_to(state, length, Point::Refused(why), Store::Nothing),
+        Point::Refused(why) => move_to(state, length, Point::Refused(why), None),
         Point::BlockReset(a, g) => configure(state, length, a, g),
         Point::Resetting(p) => move_to(
             state,
             length,
             Point::Resetting(reset::advance(p, v)),
-            Store::Nothing,
+            None,
         ),
         Point::Listening(p) => advance_listen(state, length, p, v),
         Point::Responding(r) => move_to(
             state,
             length,
             Point::Responding(slave_respond::advance(r, v, length)),
-            Store::Nothing,
+            None,
         ),
     }
 }

@@ -33,14 +33,14 @@ pub fn store(t: Transfer, v: u32) -> Store
 {
     let p = t.point;
     match p {
-        Point::Setup(_) => Store::Nothing,
-        Point::Abort(_, _) => Store::Nothing,
+        Point::Setup(_) => None,
+        Point::Abort(_, _) => None,
         Point::ReadBlocking(b) => words::store_read(t.at, b, v),
-        Point::WriteBlocking(_) => Store::Nothing,
+        Point::WriteBlocking(_) => None,
         Point::ReadAsync(q) => words::store_round(t.at, t.len, q, v),
-        Point::WriteAsync(_) => Store::Nothing,
-        Point::Wait(_) => Store::Nothing,
-        Point::Stop(_) => Store::Nothing,
-        Point::Finished(_) => Store::Nothing,
+        Point::WriteAsync(_) => None,
+        Point::Wait(_) => None,
+        Point::Stop(_) => None,
+        Point::Finished(_) => None,
     }
 }

@@ -155,10 +155,10 @@ pub fn store_read(at: usize, p: ReadPoint, v: u32) -> Store
     ensures { result ≡ store_read at p v }
 {
     match p {
-        ReadPoint::Room(_) => Store::Nothing,
-        ReadPoint::Ask(_) => Store::Nothing,
-        ReadPoint::Level(_) => Store::Nothing,
-        ReadPoint::Take(i) => Store::Byte(sum(at, i), regs::fields::byte_of(v)),
+        ReadPoint::Room(_) => None,
+        ReadPoint::Ask(_) => None,
+        ReadPoint::Level(_) => None,
+        ReadPoint::Take(i) => Some((sum(at, i), regs::fields::byte_of(v))),
     }
 }
 
@@ -166,12 +166,12 @@ pub fn store_round(at: usize, len: u16, p: RoundPoint, v: u32) -> Store
     ensures { result ≡ store_round at len p v }
 {
     match p {
-        RoundPoint::Capacity(_) => Store::Nothing,
-        RoundPoint::Queue(_, _) => Store::Nothing,
-        RoundPoint::Level(_) => Store::Nothing,
-        RoundPoint::Fetch(round, left) => Store::Byte(
+        RoundPoint::Capacity(_) => None,
+        RoundPoint::Queue(_, _) => None,
+        RoundPoint::Level(_) => None,
+        RoundPoint::Fetch(round, left) => Some((
             sum(at, difference(difference(len, round.remaining), left)),
             regs::fields::byte_of(v),
-        ),
+        )),
     }
 }

@@ -6,7 +6,7 @@ ghost use Rattle.regs.specs.Inner.Machine.{final, ran};
 ghost use Rattle.transfer.specs.Inner.Machine.{machine};
 ghost use Rattle.transfer_run.specs.Inner.Steps.{Steps};
 
-use regs::access::{Performed, Ran};
+use regs::access::Ran;
 use transfer::Transfer;
 
 // Accesses were made, so many readings are used and so many entries in the log; or the run ends.
@@ -41,12 +41,12 @@ fn step(
     let s = transfer_steps::moved(t, to, coded, kinds, lengths);
     let n = transfer_access::next_access(s, bytes);
     match regs::access::perform(n, readings, u, log, k) {
-        Performed::Stopped(r) => Stepped::Stopped(Ran {
+        Err(r) => Stepped::Stopped(Ran {
             reply: r,
             entries: k,
             used: u,
         }),
-        Performed::Did(v, w) => {
+        Ok((v, w)) => {
             regs::access::keep(buffer, transfer_access::store(s, v));
             Stepped::On(
                 transfer_steps::advance(s, v, coded, kinds, lengths),

@@ -7,8 +7,7 @@ use native.Mathlib.Omega.{arith}
 use borrow.Author.Tests.{ltb-true, ne_eqb}
 use lib.Dec.{eqb, ltb}
 use lib.ListN.{get_or}
-use Rattle.std.specs.Prelude.{if◌then◌else◌}
-use Rattle.regs.specs.declared.access.Store.TheVariants.{Nothing}
+use Rattle.std.specs.Prelude.{if◌then◌else◌, None}
 use Rattle.transfer.specs.Inner.Machine.{store_at, store_of}
 use Rattle.transfer.specs.declared.Point.{Point}
 use Rattle.transfer.specs.declared.Transfer.{Transfer}
@@ -18,11 +17,11 @@ use Rattle.words_points.specs.declared.Place.{Place}
 use Rattle.words.specs.Inner.Words.{place_in, transfer_in, held_at}
 
 module _ (t : Transfer) (v : ℕ) where
-  either : (b : Bool) (p q : Point) → store_at t p v ≡ Nothing → store_at t q v ≡ Nothing → store_at t (if b then p else q) v ≡ Nothing
+  either : (b : Bool) (p q : Point) → store_at t p v ≡ None → store_at t q v ≡ None → store_at t (if b then p else q) v ≡ None
   either true p q h k = h
   either false p q h k = k
 
-  pub none_stored : (p : Place) → eqb p.group 2 ≡ false → eqb p.group 4 ≡ false → store_at t (point_at p) v ≡ Nothing
+  pub none_stored : (p : Place) → eqb p.group 2 ≡ false → eqb p.group 4 ≡ false → store_at t (point_at p) v ≡ None
   unfolding point_at store_at
   none_stored p h k =
       simp (h, k)
@@ -33,7 +32,7 @@ module _ (t : Transfer) (v : ℕ) where
 
 -- either way of `held_at`
 by_end : (b : Bool) (n d : ℕ) (t : Transfer) (v : ℕ)
-    → (b ≡ true → store_of t v ≡ Nothing)
+    → (b ≡ true → store_of t v ≡ None)
     → store_of t v ≡ store_held (if b then Over n d else Live t) v
 by_end true n d t v h = h refl
 by_end false n d t v h = refl

@@ -140,5 +140,5 @@ pub fn store(words: &[u64; 20], v: u32) -> Store
         let p = queue_of(words[ROW], who_from(words));
         return store_round(at_of(words[AT]), half(words[LEN]), p, v);
     }
-    Store::Nothing
+    None
 }

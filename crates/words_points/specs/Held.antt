@@ -1,9 +1,8 @@
 -- What a caller of the steps holds of a transfer.
-use Rattle.std.specs.Prelude.{ℕ, Bool, List}
+use Rattle.std.specs.Prelude.{ℕ, Bool, List, None}
 use Rattle.regs.specs.Answers.{number, detail}
 use Rattle.regs.specs.declared.answers.Reply.TheVariants.{Answered}
-use Rattle.regs.specs.declared.access.Store.{Store}
-use Rattle.regs.specs.declared.access.Store.TheVariants.{Nothing}
+use Rattle.regs.specs.Store.{Store}
 use Rattle.transfer.specs.Inner.Machine.{store_of, advance_of}
 use Rattle.transfer.specs.declared.Point.{Point}
 use Rattle.transfer.specs.declared.Point.TheVariants.{Setup, Abort, ReadBlocking, WriteBlocking, ReadAsync}
@@ -37,4 +36,4 @@ advanced_held coded kinds lengths (Over n d) v = Over n d
 -- what that access puts into the read buffer
 abbrev pub store_held : Held → ℕ → Store
 store_held (Live t) v = store_of t v
-store_held (Over n d) v = Nothing
+store_held (Over n d) v = None

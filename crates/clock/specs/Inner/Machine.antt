@@ -1,5 +1,5 @@
 -- Clock setup as a machine of one access a step. Only contracts of inner functions cite this.
-use Rattle.std.specs.Prelude.{ℕ, ◌+◌, eqb, ltb, if◌then◌else◌}
+use Rattle.std.specs.Prelude.{ℕ, ◌+◌, eqb, ltb, if◌then◌else◌, None}
 use Rattle.regs.specs.Registers.{ENABLE, FS_SCL_HCNT, FS_SCL_LCNT, FS_SPKLEN, SDA_HOLD}
 use Rattle.regs.specs.Fields.{set_ic_sda_tx_hold}
 use Rattle.regs.specs.Steps.{Machine}
@@ -7,7 +7,6 @@ use Rattle.regs.specs.declared.answers.Answer.TheVariants.{Accepted, Refused}
 use Rattle.regs.specs.declared.answers.Refusal.TheVariants as R
 use Rattle.regs.specs.declared.access.Next.{Next}
 use Rattle.regs.specs.declared.access.Next.TheVariants as N
-use Rattle.regs.specs.declared.access.Store.TheVariants.{Nothing}
 use Rattle.clock_setting.specs.SetConfig.{spklen}
 use Rattle.clock_setting.specs.Datasheet.{hcnt, lcnt, hold}
 use Rattle.clock.specs.declared.Counts.{Counts}
@@ -82,4 +81,4 @@ advance_of Enable v = Finished Accepted
 advance_of (Finished a) v = Finished a
 
 abbrev pub machine : Machine
-machine = record { S = ClockPoint; K = Unit {0}; next = next_of; advance = advance_of; store = λ p v. Nothing; state = λ p. tt }
+machine = record { S = ClockPoint; K = Unit {0}; next = next_of; advance = advance_of; store = λ p v. None; state = λ p. tt }

@@ -1,13 +1,12 @@
 -- The run of a machine of one access a step (`Machine` in specs/Steps.antt), over any machine. Only contracts
 -- of inner functions cite this: no public call rests on believing it.
-use Rattle.std.specs.Prelude.{ℕ, zero, suc, ◌+◌, ◌*◌, List, ltb, length, get_or, set, if◌then◌else◌}
+use Rattle.std.specs.Prelude.{ℕ, zero, suc, ◌+◌, ◌*◌, List, ltb, length, get_or, set, if◌then◌else◌, Ok, Err}
 use Rattle.regs.specs.Steps.{Machine, stored_in}
 use Rattle.regs.specs.declared.answers.Reply.{Reply}
 use Rattle.regs.specs.declared.answers.Reply.TheVariants.{Answered, LogFull, OutOfReadings}
 use Rattle.regs.specs.declared.access.Next.{Next}
 use Rattle.regs.specs.declared.access.Next.TheVariants.{Read, Write, Mark, Finished}
-use Rattle.regs.specs.declared.access.Performed.{Performed}
-use Rattle.regs.specs.declared.access.Performed.TheVariants.{Did, Stopped}
+use Rattle.regs.specs.Store.{Performed}
 
 abbrev pub head_of : Next → ℕ
 head_of (Read r) = 0x100 + r
@@ -23,10 +22,10 @@ value_of (Finished a) v = 0
 
 -- the reading that an access takes, 0 where it takes none, with how many are used then; or that none is left
 abbrev pub taken : List ℕ → ℕ → Next → Performed
-taken rs used (Read r) = if ltb used (length rs) then Did (get_or rs used 0) (used + 1) else Stopped OutOfReadings
-taken rs used (Write r v) = Did 0 used
-taken rs used (Mark x) = Did 0 used
-taken rs used (Finished a) = Stopped (Answered a)
+taken rs used (Read r) = if ltb used (length rs) then Ok ((get_or rs used 0), (used + 1)) else Err OutOfReadings
+taken rs used (Write r v) = Ok (0, used)
+taken rs used (Mark x) = Ok (0, used)
+taken rs used (Finished a) = Err (Answered a)
 
 -- with no room left in the log nothing is done any more: a full log is told before a reading that is missing
 abbrev pub at_full : Next → Reply
@@ -37,7 +36,7 @@ at_full (Finished a) = Answered a
 
 -- an access, with so many entries in the log and room for so many
 abbrev pub performed : List ℕ → ℕ → ℕ → ℕ → Next → Performed
-performed rs used entries room n = if ltb entries room then taken rs used n else Stopped (at_full n)
+performed rs used entries room n = if ltb entries room then taken rs used n else Err (at_full n)
 
 -- entry k is put into the log
 abbrev pub entered : List ℕ → ℕ → ℕ → ℕ → List ℕ
@@ -45,8 +44,8 @@ entered l k head value = set (set l (k * 2) head) (k * 2 + 1) value
 
 -- the log after an access
 abbrev pub log_after : Performed → List ℕ → ℕ → Next → List ℕ
-log_after (Did v used) l k n = entered l k (head_of n) (value_of n v)
-log_after (Stopped reply) l k n = l
+log_after (Ok (v, used)) l k n = entered l k (head_of n) (value_of n v)
+log_after (Err reply) l k n = l
 
 -- what a run leaves
 pub record Final (K : Type 0) : Type 0 where
@@ -61,8 +60,8 @@ abbrev pub final : {K : Type 0} → Reply → ℕ → ℕ → List ℕ → List 
 final r k u l b s = record { reply = r; entries = k; used = u; log = l; buffer = b; state = s }
 
 abbrev pub by_performed : {K : Type 0} → Performed → (ℕ → ℕ → Final K) → (Reply → Final K) → Final K
-by_performed (Did v u) go stop = go v u
-by_performed (Stopped r) go stop = stop r
+by_performed (Ok (v, u)) go stop = go v u
+by_performed (Err r) go stop = stop r
 
 module _ (M : Machine) (rs : List ℕ) where
   -- the run from a point, with room for `left` more entries; the entries and readings so far, the log and the buffer

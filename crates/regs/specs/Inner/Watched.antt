@@ -1,13 +1,12 @@
 -- A machine that is watched, as a program is (specs/Watched.antt). Its points have the log so far.
-use Rattle.std.specs.Prelude.{ℕ, List, [], ◌∷◌, ◌++◌, if◌then◌else◌}
+use Rattle.std.specs.Prelude.{ℕ, List, [], ◌∷◌, ◌++◌, if◌then◌else◌, None, Some}
 use Rattle.regs.specs.Steps.{Machine}
 use Rattle.regs.specs.Watched.{Watcher}
 use Rattle.regs.specs.declared.access.Entry.{Entry}
 use Rattle.regs.specs.declared.access.Entry.TheVariants as E
 use Rattle.regs.specs.declared.access.Next.{Next}
 use Rattle.regs.specs.declared.access.Next.TheVariants.{Read, Write, Mark, Finished}
-use Rattle.regs.specs.declared.access.Store.{Store}
-use Rattle.regs.specs.declared.access.Store.TheVariants.{Nothing, Byte}
+use Rattle.regs.specs.Store.{Store}
 
 module _ (O : Watcher) where
   abbrev pub changed : List Entry → Next → Next
@@ -24,8 +23,8 @@ module _ (O : Watcher) where
   longer_log log (Finished a) v = log
 
   abbrev pub placed : Store → Store
-  placed Nothing = Nothing
-  placed (Byte i b) = if O.has_place i then Byte i b else Nothing
+  placed None = None
+  placed (Some (i, b)) = if O.has_place i then Some (i, b) else None
 
   abbrev pub watched_machine : Machine → Machine
   watched_machine M = record {

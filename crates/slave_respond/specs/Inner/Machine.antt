@@ -1,4 +1,5 @@
 -- The machine of a response: at each point the access that is next, and where it leads. Only contracts of inner functions cite this.
+use Rattle.std.specs.Prelude as O
 use Rattle.std.specs.Prelude.{ℕ, ◌+◌, ◌-◌, List, ◌&&◌, eqb, ltb, get_or, if◌then◌else◌}
 use Rattle.regs.specs.Program.{PENDING}
 use Rattle.regs.specs.Registers.{DATA_CMD, INTR_MASK, RAW_INTR_STAT, CLR_INTR, CLR_RD_REQ, CLR_TX_ABRT, CLR_RX_DONE, TX_ABRT_SOURCE}
@@ -13,7 +14,6 @@ use Rattle.regs.specs.declared.answers.Answer.{Answer}
 use Rattle.regs.specs.declared.answers.Answer.TheVariants.{Accepted, Responded, Refused}
 use Rattle.regs.specs.declared.access.Next.{Next}
 use Rattle.regs.specs.declared.access.Next.TheVariants as N
-use Rattle.regs.specs.declared.access.Store.TheVariants as S
 use Rattle.slave.specs.I2cSlave.{abort_reason}
 use Rattle.slave.specs.declared.SlaveState.{SlaveState}
 use Rattle.slave_respond.specs.declared.Job.{Job}
@@ -119,6 +119,6 @@ machine bytes =
       K = SlaveState;
       next = λ s. next_respond bytes s.response.job s.response.point;
       advance = λ s v. responder s.state s.length (advance_respond s.length s.response.job s.response.point v);
-      store = λ s v. S.Nothing;
+      store = λ s v. O.None;
       state = λ s. s.state;
     }

@@ -1,5 +1,6 @@
 -- The slave as a machine of one access a step: the points of `reset`, those of the two machines below, and the
 -- start of each call. Only contracts of inner functions cite this.
+use Rattle.std.specs.Prelude as O
 use Rattle.std.specs.Prelude.{ℕ, List, Bool, eqb, ltb, if◌then◌else◌}
 use Rattle.regs.specs.Program.{BLOCK_RESET}
 use Rattle.regs.specs.Registers.{CON, SAR, INTR_MASK, RX_TL, TX_TL, CLR_INTR, ENABLE, ACK_GENERAL_CALL}
@@ -9,8 +10,7 @@ use Rattle.regs.specs.declared.answers.Refusal.TheVariants as F
 use Rattle.regs.specs.declared.answers.Answer.TheVariants.{Accepted, Refused}
 use Rattle.regs.specs.declared.access.Next.{Next}
 use Rattle.regs.specs.declared.access.Next.TheVariants as N
-use Rattle.regs.specs.declared.access.Store.{Store}
-use Rattle.regs.specs.declared.access.Store.TheVariants as S
+use Rattle.regs.specs.Store.{Store}
 use Rattle.slave.specs.I2cSlave.{with_pending, with_config}
 use Rattle.slave.specs.declared.Pending.{Pending}
 use Rattle.slave.specs.declared.Pending.TheVariants.{None, Byte}
@@ -102,11 +102,11 @@ abbrev pub listen_moved : SlaveState → ℕ → Listened → Moved
 listen_moved me length l = moved (with_pending l.pending me) length (Q.Listening l.point) l.store
 
 abbrev pub advance_at : Point → SlaveState → ℕ → ℕ → Moved
-advance_at (Q.Refused why) me length v = moved me length (Q.Refused why) S.Nothing
-advance_at (Q.BlockReset a g) me length v = moved (with_config a g me) length (Q.Resetting R.Disable) S.Nothing
-advance_at (Q.Resetting p) me length v = moved me length (Q.Resetting (advance_reset p v)) S.Nothing
+advance_at (Q.Refused why) me length v = moved me length (Q.Refused why) O.None
+advance_at (Q.BlockReset a g) me length v = moved (with_config a g me) length (Q.Resetting R.Disable) O.None
+advance_at (Q.Resetting p) me length v = moved me length (Q.Resetting (advance_reset p v)) O.None
 advance_at (Q.Listening p) me length v = listen_moved me length (advance_listen length p me.pending_byte v)
-advance_at (Q.Responding r) me length v = moved me length (Q.Responding (advance_respond length r.job r.point v)) S.Nothing
+advance_at (Q.Responding r) me length v = moved me length (Q.Responding (advance_respond length r.job r.point v)) O.None
 
 -- with the bytes that a response sends
 abbrev pub machine : List ℕ → Machine

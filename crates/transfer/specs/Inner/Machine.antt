@@ -1,5 +1,5 @@
 -- A master transfer as a machine: the access at each point, where a reading leads, and what is stored with it.
-use Rattle.std.specs.Prelude.{ℕ, ◌+◌, ◌-◌, ◌%◌, ◌^◌, min, Bool, true, false, ◌&&◌, ◌||◌, ltb, List, length, ◌==◌, nat_lt, slice_index, if◌then◌else◌}
+use Rattle.std.specs.Prelude.{ℕ, ◌+◌, ◌-◌, ◌%◌, ◌^◌, min, Bool, true, false, ◌&&◌, ◌||◌, ltb, List, length, ◌==◌, nat_lt, slice_index, if◌then◌else◌, None, Some}
 use Rattle.regs.specs.Registers.{TAR, DATA_CMD, INTR_MASK, RAW_INTR_STAT, RX_TL, TX_TL, CLR_TX_ABRT, CLR_STOP_DET}
 use Rattle.regs.specs.Registers.{ENABLE, TXFLR, RXFLR, TX_ABRT_SOURCE}
 use Rattle.regs.specs.Fields.{command_word, dat, address_field, level, tx_empty, stop_det, set_m_rx_full}
@@ -10,8 +10,7 @@ use Rattle.regs.specs.declared.answers.Answer.TheVariants.{Accepted, Refused}
 use Rattle.regs.specs.declared.answers.Refusal.TheVariants as X
 use Rattle.regs.specs.declared.access.Next.{Next}
 use Rattle.regs.specs.declared.access.Next.TheVariants as N
-use Rattle.regs.specs.declared.access.Store.{Store}
-use Rattle.regs.specs.declared.access.Store.TheVariants.{Nothing, Byte}
+use Rattle.regs.specs.Store.{Store}
 use Rattle.master.specs.Driver.{reason_of}
 use Rattle.transfer.specs.Inner.Points.{transfer_at, with_point, has_failed}
 use Rattle.transfer.specs.declared.Mode.{Mode}
@@ -126,28 +125,28 @@ abbrev pub sum_of : ℕ → ℕ → ℕ
 sum_of a n = (a + n) % 2 ^ 64
 
 unfoldable pub store_read : ℕ → ReadPoint → ℕ → Store
-store_read at (R.Room i) v = Nothing
-store_read at (R.Ask i) v = Nothing
-store_read at (R.Level i) v = Nothing
-store_read at (R.Take i) v = Byte (sum_of at i) (dat v)
+store_read at (R.Room i) v = None
+store_read at (R.Ask i) v = None
+store_read at (R.Level i) v = None
+store_read at (R.Take i) v = Some ((sum_of at i), (dat v))
 
 -- the bytes of a round are stored from where the bytes that remain after it are counted back
 unfoldable pub store_round : ℕ → ℕ → RoundPoint → ℕ → Store
-store_round at len (Q.Capacity round) v = Nothing
-store_round at len (Q.Queue round words) v = Nothing
-store_round at len (Q.Level round) v = Nothing
-store_round at len (Q.Fetch round left) v = Byte (sum_of at (len - round.remaining - left)) (dat v)
+store_round at len (Q.Capacity round) v = None
+store_round at len (Q.Queue round words) v = None
+store_round at len (Q.Level round) v = None
+store_round at len (Q.Fetch round left) v = Some ((sum_of at (len - round.remaining - left)), (dat v))
 
 unfoldable pub store_at : Transfer → Point → ℕ → Store
-store_at t (Setup p) v = Nothing
-store_at t (Abort p caller) v = Nothing
+store_at t (Setup p) v = None
+store_at t (Abort p caller) v = None
 store_at t (ReadBlocking p) v = store_read t.at p v
-store_at t (WriteBlocking p) v = Nothing
+store_at t (WriteBlocking p) v = None
 store_at t (ReadAsync p) v = store_round t.at t.len p v
-store_at t (WriteAsync p) v = Nothing
-store_at t (Wait p) v = Nothing
-store_at t (Stop p) v = Nothing
-store_at t (Finished a) v = Nothing
+store_at t (WriteAsync p) v = None
+store_at t (Wait p) v = None
+store_at t (Stop p) v = None
+store_at t (Finished a) v = None
 
 abbrev pub store_of : Transfer → ℕ → Store
 store_of t v = store_at t t.point v

@@ -1,9 +1,8 @@
 -- Polls of a transfer that find nothing: its run comes from a point to the same point, later.
-use Rattle.std.specs.Prelude.{ℕ, Bool, true, false, not, ◌&&◌, List, ◌≡◌, eqb, ltb}
+use Rattle.std.specs.Prelude.{ℕ, Bool, true, false, not, ◌&&◌, List, ◌≡◌, eqb, ltb, None}
 use Rattle.regs.specs.Fields.{tx_empty, stop_det, level}
 use Rattle.regs.specs.Registers.{RAW_INTR_STAT}
 use Rattle.regs.specs.declared.access.Next.TheVariants.{Read}
-use Rattle.regs.specs.declared.access.Store.TheVariants.{Nothing}
 use Rattle.transfer.specs.Inner.Points.{with_point}
 use Rattle.transfer.specs.Inner.Machine.{machine, next_at, store_at, step_of}
 use Rattle.transfer.specs.declared.Transfer.{Transfer}
@@ -24,7 +23,7 @@ flag_set false stat = tx_empty stat
 
 pub record AwaitsFlag (stop : Bool) (p : Point) : Type 0 where
   pub reads : (bytes : List ℕ) (t : Transfer) → next_at bytes t p ≡ Read RAW_INTR_STAT
-  pub keeps : (t : Transfer) (v : ℕ) → store_at t p v ≡ Nothing
+  pub keeps : (t : Transfer) (v : ℕ) → store_at t p v ≡ None
   pub waits : (len : ℕ) (send_stop : Bool) (v : ℕ) → flag_set stop v ≡ false → step_of len send_stop p v ≡ Go p
 
 -- ---- a blocking read: RXFLR has no byte, and nothing was aborted
