@@ -4,13 +4,13 @@
 ghost use Rattle.std.specs.Prelude.{◌≡◌, length};
 ghost use Rattle.text_hex.specs.Text.{number_at};
 ghost use Rattle.answer_frames.specs.Frames.{mark_frame, word_frame, word_of, frame_of_kind, frame_of};
-ghost use Rattle.answer_frames.specs.Frames.{is_answer, is_unknown};
+ghost use Rattle.answer_frames.specs.Frames.{is_answer};
 
-use text_hex::digits::{Value, is_pairs, number};
+use text_hex::digits::{is_pairs, number};
 
 // An answer frame: a read and a write with offset and value, the
-// two marks, a buffer, an answer's number and detail; or no frame.
-#[derive(Clone, Copy)]
+// two marks, a buffer, an answer's number and detail.
+#[derive(Clone, Copy, PartialEq, Eq)]
 pub enum Frame {
     Read(u32, u32),
     Write(u32, u32),
@@ -18,108 +18,67 @@ pub enum Frame {
     BlockReset,
     Buffer,
     Answer(u32, u32),
-    Unknown,
 }
 
-fn mark(kind: u32) -> Frame
+fn mark(kind: u32) -> Option<Frame>
     ensures { result ≡ mark_frame kind }
 {
-    if kind == 0x32 {
-        Frame::Pending
-    } else if kind == 0x33 {
-        Frame::BlockReset
-    } else {
-        Frame::Unknown
+    match kind {
+        0x32 => Some(Frame::Pending),
+        0x33 => Some(Frame::BlockReset),
+        _ => None,
     }
 }
 
-fn word(kind: u32, byte: u32, word: u32) -> Frame
+fn word(kind: u32, byte: u32, word: u32) -> Option<Frame>
     ensures { result ≡ word_frame kind byte word }
 {
-    if kind == 0x30 {
-        return Frame::Read(byte, word);
+    match kind {
+        0x30 => Some(Frame::Read(byte, word)),
+        0x31 => Some(Frame::Write(byte, word)),
+        0x35 if byte < 24 => Some(Frame::Answer(byte, word)),
+        _ => None,
     }
-    if kind == 0x31 {
-        return Frame::Write(byte, word);
-    }
-    if kind == 0x35 {
-        if byte < 24 {
-            return Frame::Answer(byte, word);
-        }
-    }
-    Frame::Unknown
 }
 
-fn word_in(line: &[u8], kind: u32) -> Frame
+fn word_in(line: &[u8], kind: u32) -> Option<Frame>
     requires { length line.now ≡ 12 }
     ensures { result ≡ word_of kind (number_at line.now 2 2)
         (number_at line.now 4 8) }
 {
-    match number(line, 2, 2) {
-        Value::No => Frame::Unknown,
-        Value::Is(byte) => match number(line, 4, 8) {
-            Value::No => Frame::Unknown,
-            Value::Is(w) => word(kind, byte, w),
-        },
-    }
+    let byte = number(line, 2, 2)?;
+    let value = number(line, 4, 8)?;
+    word(kind, byte, value)
 }
 
-fn of_kind(line: &[u8], kind: u32) -> Frame
+fn of_kind(line: &[u8], kind: u32) -> Option<Frame>
     ensures { result ≡ frame_of_kind line.now kind }
 {
     if kind == 0x34 {
-        if is_pairs(line) {
-            return Frame::Buffer;
-        }
-        return Frame::Unknown;
+        return is_pairs(line).then_some(Frame::Buffer);
     }
-    if line.len() == 2 {
-        return mark(kind);
+    match line.len() {
+        2 => mark(kind),
+        12 => word_in(line, kind),
+        _ => None,
     }
-    if line.len() == 12 {
-        return word_in(line, kind);
-    }
-    Frame::Unknown
 }
 
-// Which frame a line is.
-pub fn frame_in(line: &[u8]) -> Frame
+// Which frame a line is, if it is one.
+#[tactic(auto, unfolding(crate::specs::Frames::frame_of))]
+pub fn frame_in(line: &[u8]) -> Option<Frame>
     ensures { result ≡ frame_of line.now }
 {
     if line.len() < 2 {
-        return Frame::Unknown;
+        return None;
     }
-    match number(line, 0, 2) {
-        Value::No => Frame::Unknown,
-        Value::Is(kind) => of_kind(line, kind),
-    }
+    let kind = number(line, 0, 2)?;
+    of_kind(line, kind)
 }
 
 // With an answer its call ends.
-pub fn is_answer(f: Frame) -> bool
+pub fn is_answer(f: Option<Frame>) -> bool
     ensures { result ≡ is_answer f }
 {
-    match f {
-        Frame::Read(_, _) => false,
-        Frame::Write(_, _) => false,
-        Frame::Pending => false,
-        Frame::BlockReset => false,
-        Frame::Buffer => false,
-        Frame::Answer(_, _) => true,
-        Frame::Unknown => false,
-    }
-}
-
-pub fn is_unknown(f: Frame) -> bool
-    ensures { result ≡ is_unknown f }
-{
-    match f {
-        Frame::Read(_, _) => false,
-        Frame::Write(_, _) => false,
-        Frame::Pending => false,
-        Frame::BlockReset => false,
-        Frame::Buffer => false,
-        Frame::Answer(_, _) => false,
-        Frame::Unknown => true,
-    }
+    matches!(f, Some(Frame::Answer(_, _)))
 }

@@ -10,21 +10,19 @@ use lib.Dec.{eqb, ltb}
 use lib.ListN.{length, take}
 use lib.Seq.{length-take-le, take_all}
 use borrow.Author.Tests.{lt-ltb, le-ltb, ltb-true, ltb-false, ne_eqb}
-use Rattle.std.specs.Prelude.{if◌then◌else◌}
+use Rattle.std.specs.Prelude.{if◌then◌else◌, Option, Some, None}
 use Rattle.text_hex.specs.Text.{number_at}
 use Rattle.text_hex.specs.Pairs.{whole_pairs}
-use Rattle.text_hex.specs.declared.digits.Value.{Value}
-use Rattle.text_hex.specs.declared.digits.Value.TheVariants.{Is, No}
 use Rattle.answer_frames.specs.declared.Frame.{Frame}
-use Rattle.answer_frames.specs.declared.Frame.TheVariants.{Buffer, Unknown}
+use Rattle.answer_frames.specs.declared.Frame.TheVariants.{Buffer}
 use Rattle.answer_frames.specs.Frames.{frame_of, of_kind, is_answer}
 use Rattle.explain_bus.specs.Line.{kept_of, kept}
 use Rattle.answer_lines.specs.Lines.{no_frame, kept_on}
 
-abbrev pub BufferOrNone : Frame → Type 0
-BufferOrNone f = (f ≡ Buffer) ⊎ (f ≡ Unknown)
+abbrev pub BufferOrNone : Option Frame → Type 0
+BufferOrNone f = (f ≡ Some Buffer) ⊎ (f ≡ None)
 
-pick : (a b : Bool) (f : Frame) → f ≡ Unknown → BufferOrNone (if a then (if b then Buffer else Unknown) else f)
+pick : (a b : Bool) (f : Option Frame) → f ≡ None → BufferOrNone (if a then (if b then Some Buffer else None) else f)
 pick true true f e = inl refl
 pick true false f e = inr refl
 pick false b f e = inr e
@@ -34,9 +32,9 @@ no_word true words e = refl
 no_word false words e = e
 
 module _ (l : List ℕ) (h : 8194 < length l) where
-  of_value : (v : Value) → BufferOrNone (of_kind l v)
-  of_value No = inr refl
-  of_value (Is k) =
+  of_value : (v : Option ℕ) → BufferOrNone (of_kind l v)
+  of_value None = inr refl
+  of_value (Some k) =
       pick (eqb k 0x34) (whole_pairs l) _ (rw (ne_eqb (length l) 2 (λ e. omega arith), ne_eqb (length l) 12 (λ e. omega arith)))
 
   pub long_frame : BufferOrNone (frame_of l)

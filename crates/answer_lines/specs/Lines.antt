@@ -1,8 +1,8 @@
 -- Lines of answers in order: their numbers, which of them are no answer frames, and the log that is kept of the open call.
-use Rattle.std.specs.Prelude.{ℕ, ◌+◌, ◌-◌, ◌^◌, ◌≤◌, Bool, ◌||◌, List, ◌++◌, ◌≡◌, ltb, length, take, if◌then◌else◌}
+use Rattle.std.specs.Prelude.{ℕ, ◌+◌, ◌-◌, ◌^◌, ◌≤◌, Bool, ◌||◌, List, ◌++◌, ◌≡◌, ltb, length, take, if◌then◌else◌, is_none}
 use Rattle.text_tables.specs.Ascii.{ascii}
 use Rattle.text_tables.specs.Decimal.{digits}
-use Rattle.answer_frames.specs.Frames.{frame_of, is_unknown}
+use Rattle.answer_frames.specs.Frames.{frame_of}
 use Rattle.explain_bus.specs.Line.{kept}
 
 -- the number of the line behind so many others: lines are counted from 1, up to what 64 bits can say
@@ -11,7 +11,7 @@ number_after lines = if ltb lines (2 ^ 64 - 1) then lines + 1 else lines
 
 -- a line of more than 8,194 bytes, which are a buffer of 4,096, is no answer frame whatever its bytes are
 abbrev pub no_frame : List ℕ → Bool
-no_frame line = ltb 8194 (length line) || is_unknown (frame_of line)
+no_frame line = ltb 8194 (length line) || is_none (frame_of line)
 
 -- what is printed of such a line; a number of 64 bits has at most 20 digits
 unfoldable pub warning : ℕ → List ℕ

@@ -6,7 +6,7 @@ ghost use Rattle.std.specs.Prelude.{◌≡◌, ◌≤◌, length};
 ghost use Rattle.text_hex.specs.Appended.{Appended};
 ghost use Rattle.answer_lines.specs.Lines.{number_after, no_frame, warning, LOG_WORDS, KeptOn};
 
-use answer_frames::{frame_in, is_unknown};
+use answer_frames::frame_in;
 use text_tables::decimal::push_digits;
 use text_tables::push_text;
 
@@ -21,10 +21,7 @@ pub fn number_after(lines: u64) -> u64
 pub fn no_frame(line: &[u8]) -> bool
     ensures { result ≡ no_frame line.now }
 {
-    if line.len() > explain_frames::LONGEST {
-        return true;
-    }
-    is_unknown(frame_in(line))
+    line.len() > explain_frames::LONGEST || frame_in(line).is_none()
 }
 
 // The text of a line that is no answer frame, at the start of a lent buffer. Says where it ends.

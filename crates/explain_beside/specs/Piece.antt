@@ -1,5 +1,5 @@
 -- The piece of the bus sequence that a frame's word makes after the frames before it, and the text of a frame with its piece.
-use Rattle.std.specs.Prelude.{ℕ, ◌+◌, ◌-◌, ◌%◌, List, [], ◌∷◌, ◌++◌, eqb, ltb, length, replicate, if◌then◌else◌}
+use Rattle.std.specs.Prelude.{ℕ, ◌+◌, ◌-◌, ◌%◌, List, [], ◌∷◌, ◌++◌, eqb, ltb, length, replicate, if◌then◌else◌, Option, Some}
 use Rattle.regs.specs.Registers.{TAR, DATA_CMD}
 use Rattle.regs.specs.Fields.{address_field}
 use Rattle.bus.specs.declared.Bus.{Bus}
@@ -10,7 +10,7 @@ use Rattle.bus.specs.Bus.{Sign, signs_of}
 use Rattle.bus.specs.Placed.{made, moved}
 use Rattle.text_hex.specs.Text.{LF}
 use Rattle.answer_frames.specs.declared.Frame.{Frame}
-use Rattle.answer_frames.specs.declared.Frame.TheVariants.{Read, Write, Pending, BlockReset, Buffer, Answer, Unknown}
+use Rattle.answer_frames.specs.declared.Frame.TheVariants.{Write}
 use Rattle.answer_frames.specs.Frames.{frame_of}
 use Rattle.explain_frames.specs.Texts.{access_words, explained}
 use Rattle.explain_bus.specs.Line.{kept_of, signs_text}
@@ -18,14 +18,9 @@ use Rattle.explain_beside.specs.declared.transfer.Transfer.{Transfer}
 use Rattle.explain_beside.specs.declared.transfer.Transfer.TheVariants.{No, To}
 
 -- what a frame writes to a register
-abbrev pub written_in : ℕ → Frame → Written
-written_in r (Read offset w) = Nothing
-written_in r (Write offset w) = if eqb (offset % 256) r then Value w else Nothing
-written_in r Pending = Nothing
-written_in r BlockReset = Nothing
-written_in r Buffer = Nothing
-written_in r (Answer n d) = Nothing
-written_in r Unknown = Nothing
+abbrev pub written_in : ℕ → Option Frame → Written
+written_in r (Some (Write offset w)) = if eqb (offset % 256) r then Value w else Nothing
+written_in r _ = Nothing
 
 -- a write to TAR opens a transfer on an idle bus
 abbrev pub opened : Written → Transfer
@@ -33,22 +28,22 @@ opened Nothing = No
 opened (Value w) = To (address_field w) Idle
 
 -- what stands before the next frame
-abbrev pub next : Transfer → Frame → Transfer
+abbrev pub next : Transfer → Option Frame → Transfer
 next No f = opened (written_in TAR f)
 next (To address bus) f = To address (moved bus (written_in DATA_CMD f))
 
 -- what a frame's word makes of the bus
-abbrev pub piece : Transfer → Frame → List Sign
+abbrev pub piece : Transfer → Option Frame → List Sign
 piece No f = []
 piece (To address bus) f = made bus address (written_in DATA_CMD f)
 
 -- the pieces of frames one after the other
-unfoldable pub pieces : Transfer → List Frame → List Sign
+unfoldable pub pieces : Transfer → List (Option Frame) → List Sign
 pieces t [] = []
 pieces t (f ∷ fs) = piece t f ++ pieces (next t f) fs
 
 -- the log that the same frames leave for the bus line, which has `used` words already
-unfoldable pub kept_from : ℕ → List Frame → List ℕ
+unfoldable pub kept_from : ℕ → List (Option Frame) → List ℕ
 kept_from used [] = []
 kept_from used (f ∷ fs) = kept_of used f ++ kept_from (used + length (kept_of used f)) fs
 

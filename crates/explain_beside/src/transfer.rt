@@ -19,17 +19,8 @@ pub fn written(line: &[u8], register: u8) -> Written
     ensures { result ≡ written_in register (frame_of line.now) }
 {
     match frame_in(line) {
-        Frame::Read(_, _) => Written::Nothing,
-        Frame::Write(offset, w) => if offset % 256 == register as u32 {
-            Written::Value(w)
-        } else {
-            Written::Nothing
-        },
-        Frame::Pending => Written::Nothing,
-        Frame::BlockReset => Written::Nothing,
-        Frame::Buffer => Written::Nothing,
-        Frame::Answer(_, _) => Written::Nothing,
-        Frame::Unknown => Written::Nothing,
+        Some(Frame::Write(offset, w)) if offset % 256 == u32::from(register) => Written::Value(w),
+        _ => Written::Nothing,
     }
 }
 

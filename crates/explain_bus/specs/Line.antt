@@ -1,5 +1,5 @@
 -- What is kept of a transfer's log, and the line of text for the sequence that it makes of the bus.
-use Rattle.std.specs.Prelude.{ℕ, ◌+◌, ◌-◌, ◌/◌, ◌%◌, List, [], ◌∷◌, ◌++◌, eqb, ltb, length, if◌then◌else◌}
+use Rattle.std.specs.Prelude.{ℕ, ◌+◌, ◌-◌, ◌/◌, ◌%◌, List, [], ◌∷◌, ◌++◌, eqb, ltb, length, if◌then◌else◌, Option, Some}
 use Rattle.regs.specs.Registers.{TAR}
 use Rattle.regs.specs.Log.{decode}
 use Rattle.bus.specs.Bus.{Sign, START, RESTART, STOP, address_byte, written, read_slot, bus_sequence}
@@ -8,19 +8,14 @@ use Rattle.text_tables.specs.Decimal.{digits}
 use Rattle.text_tables.specs.Rows.{cell}
 use Rattle.answer_frames.specs.Frames.{frame_of}
 use Rattle.answer_frames.specs.declared.Frame.{Frame}
-use Rattle.answer_frames.specs.declared.Frame.TheVariants.{Read, Write, Pending, BlockReset, Buffer, Answer, Unknown}
+use Rattle.answer_frames.specs.declared.Frame.TheVariants.{Write}
 
 -- the two words of a log's entry that a frame adds: of a write, and from the write to TAR on. Only a master's calls write TAR.
-abbrev pub kept_of : ℕ → Frame → List ℕ
-kept_of used (Read offset w) = []
-kept_of used (Write offset w) =
+abbrev pub kept_of : ℕ → Option Frame → List ℕ
+kept_of used (Some (Write offset w)) =
     if eqb used 0 then (if eqb (offset % 256) TAR then (0x200 + offset % 256) ∷ w ∷ [] else [])
     else (0x200 + offset % 256) ∷ w ∷ []
-kept_of used Pending = []
-kept_of used BlockReset = []
-kept_of used Buffer = []
-kept_of used (Answer n d) = []
-kept_of used Unknown = []
+kept_of used _ = []
 
 -- where there is room for them
 unfoldable pub kept : List ℕ → ℕ → ℕ → List ℕ

@@ -25,7 +25,7 @@ fn put_entry(log: &mut [u32], used: usize, offset: u32, w: u32) -> usize
 fn put_write(log: &mut [u32], used: usize, offset: u32, w: u32) -> usize
     requires { used + 2 ≤ length log.old }
     ensures { Appended log.old used
-        (kept_of used (Frame.Write offset w))
+        (kept_of used (Some (Frame.Write offset w)))
         2 log.new result }
 {
     if used == 0 {
@@ -37,25 +37,18 @@ fn put_write(log: &mut [u32], used: usize, offset: u32, w: u32) -> usize
     put_entry(log, used, offset, w)
 }
 
+#[tactic(auto, using(text_hex::proofs::Appends::nothing), unfolding(crate::specs::Line::kept))]
 // Writes down the entry that a line adds to the log of a transfer, and says where the log ends.
 pub fn keep(line: &[u8], log: &mut [u32], used: usize) -> usize
     ensures { Appended log.old used
         (kept line.now used (length log.old))
         2 log.new result }
 {
-    if log.len() < 2 {
-        return used;
-    }
-    if log.len() - 2 < used {
+    if log.len() < 2 || log.len() - 2 < used {
         return used;
     }
     match frame_in(line) {
-        Frame::Read(_, _) => used,
-        Frame::Write(offset, w) => put_write(log, used, offset, w),
-        Frame::Pending => used,
-        Frame::BlockReset => used,
-        Frame::Buffer => used,
-        Frame::Answer(_, _) => used,
-        Frame::Unknown => used,
+        Some(Frame::Write(offset, w)) => put_write(log, used, offset, w),
+        _ => used,
     }
 }

@@ -2,7 +2,7 @@
 use Rattle.std.specs.Prelude.{ℕ, ◌/◌, ◌%◌, List, [], ◌∷◌, ◌++◌, eqb, ltb, length, drop, if◌then◌else◌, Option, Some, None}
 use Rattle.text_hex.specs.Text.{LF, hex2, hex8}
 use Rattle.answer_frames.specs.declared.Frame.{Frame}
-use Rattle.answer_frames.specs.declared.Frame.TheVariants.{Read, Write, Pending, BlockReset, Buffer, Answer, Unknown}
+use Rattle.answer_frames.specs.declared.Frame.TheVariants.{Read, Write, Pending, BlockReset, Buffer, Answer}
 use Rattle.answer_frames.specs.Frames.{frame_of}
 use Rattle.text_tables.specs.Ascii.{ascii}
 use Rattle.text_tables.specs.Decimal.{digits}
@@ -63,7 +63,7 @@ abort_text n d = if eqb n 11 then causes_text d else (if eqb n 23 then causes_te
 unfoldable pub answer_text : ℕ → ℕ → List ℕ
 answer_text n d = cell words 12 5 ++ (cell answers 40 n ++ (detail_text d ++ (abort_text n d ++ (LF ∷ []))))
 
--- the text of a frame; a buffer's bytes are read from its line. What is no frame has no text.
+-- the text of a frame; a buffer's bytes are read from its line
 unfoldable pub frame_text : List ℕ → Frame → List ℕ
 frame_text line (Read offset w) = access_text 0 offset w
 frame_text line (Write offset w) = access_text 1 offset w
@@ -71,8 +71,12 @@ frame_text line Pending = mark_text 2
 frame_text line BlockReset = mark_text 3
 frame_text line Buffer = buffer_text line
 frame_text line (Answer n d) = answer_text n d
-frame_text line Unknown = []
+
+-- what is no frame has no text
+abbrev pub line_text : List ℕ → Option Frame → List ℕ
+line_text line (Some f) = frame_text line f
+line_text line None = []
 
 -- the text of a line of at most 8,194 bytes, a buffer of 4,096, in a buffer with room for the longest text
 unfoldable pub explained : List ℕ → ℕ → List ℕ
-explained line room = if ltb 8194 (length line) then [] else (if ltb room 16900 then [] else frame_text line (frame_of line))
+explained line room = if ltb 8194 (length line) then [] else (if ltb room 16900 then [] else line_text line (frame_of line))

@@ -268,10 +268,10 @@ fn push_frame(out: &mut [u8], line: &[u8], f: Frame) -> usize
         Frame::BlockReset => push_mark(out, 3),
         Frame::Buffer => push_buffer(out, line),
         Frame::Answer(n, d) => push_answer(out, n, d),
-        Frame::Unknown => 0,
     }
 }
 
+#[tactic(auto, using(text_hex::proofs::Appends::nothing, text_hex::proofs::Appends::within), unfolding(crate::specs::Texts::explained))]
 // The text of a line, at the start of a buffer that has room
 // for the longest; nothing where the line is no answer frame.
 pub fn explain(line: &[u8], out: &mut [u8]) -> usize
@@ -279,11 +279,11 @@ pub fn explain(line: &[u8], out: &mut [u8]) -> usize
         (explained line.now (length out.old))
         (length out.old) out.new result }
 {
-    if line.len() > LONGEST {
+    if line.len() > LONGEST || out.len() < ROOM {
         return 0;
     }
-    if out.len() < ROOM {
-        return 0;
+    match frame_in(line) {
+        Some(f) => push_frame(out, line, f),
+        None => 0,
     }
-    push_frame(out, line, frame_in(line))
 }

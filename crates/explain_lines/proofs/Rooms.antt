@@ -18,7 +18,7 @@ use Rattle.bus.specs.declared.Written.{Written}
 use Rattle.bus.specs.declared.Written.TheVariants.{Nothing, Value}
 use Rattle.text_hex.specs.Appended.{Appended}
 use Rattle.answer_frames.specs.Frames.{frame_of}
-use Rattle.explain_frames.specs.Texts.{frame_text, explained}
+use Rattle.explain_frames.specs.Texts.{line_text, explained}
 use Rattle.explain_bus.specs.Line.{bus_line}
 use Rattle.explain_beside.specs.declared.transfer.Transfer.{Transfer}
 use Rattle.explain_beside.specs.declared.transfer.Transfer.TheVariants.{No, To}
@@ -31,7 +31,7 @@ use Rattle.explain_lines.specs.Inner.Said.{PLACES, BUS_ROOM}
 explained_in : (line : List ℕ) (room : ℕ) → LINE_ROOM ≤ room → explained line room ≡ explained line LINE_ROOM
 unfolding explained
 explained_in line room h =
-    ap (λ (small : Bool). if ltb 8194 (length line) then [] else (if small then [] else frame_text line (frame_of line)))
+    ap (λ (small : Bool). if ltb 8194 (length line) then [] else (if small then [] else line_text line (frame_of line)))
     (le-ltb room 16900 h)
 
 word_in : (bus : Bus) (address : ℕ) (line : List ℕ) (room : ℕ) (w : Written)

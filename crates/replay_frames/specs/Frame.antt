@@ -1,9 +1,7 @@
 -- A line as a frame.
-use Rattle.std.specs.Prelude.{ℕ, true, false, List, [], ◌∷◌, eqb, ltb, length, drop, if◌then◌else◌}
+use Rattle.std.specs.Prelude.{ℕ, true, false, List, [], ◌∷◌, eqb, ltb, length, drop, if◌then◌else◌, Option, Some, None}
 use Rattle.master.specs.Operations.{Operation, writes}
-use Rattle.text_hex.specs.Text.{number_at, Bytes, these, none, bytes_of}
-use Rattle.text_hex.specs.declared.digits.Value.{Value}
-use Rattle.text_hex.specs.declared.digits.Value.TheVariants.{Is, No}
+use Rattle.text_hex.specs.Text.{number_at, bytes_of}
 use Rattle.replay_calls.specs.declared.Call.{Call}
 use Rattle.replay_calls.specs.declared.Call.TheVariants.{Clock, Master, Reset, Listen, Respond, Fill, RespondAndFill}
 use Rattle.replay_frames.specs.declared.Line.{Line}
@@ -19,53 +17,53 @@ pub data Frame : Type 0 where
 
 -- ---- frames of a fixed length, by their numbers
 
-abbrev pub clock_of : Value → Value → Frame
-clock_of (Is f) (Is c) = opens (Clock f c) []
-clock_of (Is f) No = bad
-clock_of No c = bad
+abbrev pub clock_of : Option ℕ → Option ℕ → Frame
+clock_of (Some f) (Some c) = opens (Clock f c) []
+clock_of (Some f) None = bad
+clock_of None c = bad
 
 -- a form has four bits
-abbrev pub master_of : Value → Value → Frame
-master_of (Is form) (Is address) = if ltb form 16 then opens (Master form address) [] else bad
-master_of (Is form) No = bad
-master_of No address = bad
+abbrev pub master_of : Option ℕ → Option ℕ → Frame
+master_of (Some form) (Some address) = if ltb form 16 then opens (Master form address) [] else bad
+master_of (Some form) None = bad
+master_of None address = bad
 
-abbrev pub reset_of : Value → Value → Frame
-reset_of (Is address) (Is g) = if eqb g 0 then opens (Reset address false) [] else (if eqb g 1 then opens (Reset address true) [] else bad)
-reset_of (Is address) No = bad
-reset_of No g = bad
+abbrev pub reset_of : Option ℕ → Option ℕ → Frame
+reset_of (Some address) (Some g) = if eqb g 0 then opens (Reset address false) [] else (if eqb g 1 then opens (Reset address true) [] else bad)
+reset_of (Some address) None = bad
+reset_of None g = bad
 
-abbrev pub listen_of : Value → Frame
-listen_of (Is n) = opens (Listen n) []
-listen_of No = bad
+abbrev pub listen_of : Option ℕ → Frame
+listen_of (Some n) = opens (Listen n) []
+listen_of None = bad
 
-abbrev pub fill_of : Value → Frame
-fill_of (Is b) = opens (Fill b) []
-fill_of No = bad
+abbrev pub fill_of : Option ℕ → Frame
+fill_of (Some b) = opens (Fill b) []
+fill_of None = bad
 
-abbrev pub read_of : Value → Frame
-read_of (Is n) = read n
-read_of No = bad
+abbrev pub read_of : Option ℕ → Frame
+read_of (Some n) = read n
+read_of None = bad
 
-abbrev pub reading_of : Value → Frame
-reading_of (Is w) = reading w
-reading_of No = bad
+abbrev pub reading_of : Option ℕ → Frame
+reading_of (Some w) = reading w
+reading_of None = bad
 
 -- a line of n bytes, or none
 abbrev pub sized : List ℕ → ℕ → Frame → Frame
 sized line n f = if eqb (length line) n then f else bad
 
 -- `03` by its form
-abbrev pub slave_of : List ℕ → Value → Frame
-slave_of line No = bad
-slave_of line (Is form) =
+abbrev pub slave_of : List ℕ → Option ℕ → Frame
+slave_of line None = bad
+slave_of line (Some form) =
     if eqb form 0 then sized line 10 (reset_of (number_at line 4 4) (number_at line 8 2)) else
     (if eqb form 1 then sized line 8 (listen_of (number_at line 4 4)) else
     (if eqb form 3 then sized line 6 (fill_of (number_at line 4 2)) else bad))
 
-abbrev pub of_kind : List ℕ → Value → Frame
-of_kind line No = bad
-of_kind line (Is kind) =
+abbrev pub of_kind : List ℕ → Option ℕ → Frame
+of_kind line None = bad
+of_kind line (Some kind) =
     if eqb kind 0x01 then sized line 18 (clock_of (number_at line 2 8) (number_at line 10 8)) else
     (if eqb kind 0x02 then sized line 8 (master_of (number_at line 2 2) (number_at line 4 4)) else
     (if eqb kind 0x03 then slave_of line (number_at line 2 2) else
@@ -82,17 +80,17 @@ LONGEST = 18
 
 -- ---- frames that end in any number of bytes: `10`, `0302`, and `0304` with its fill byte stand before them
 
-abbrev pub fill_head : Value → Head
-fill_head (Is b) = Head.Bytes (Line.RespondAndFill b)
-fill_head No = Head.Plain
+abbrev pub fill_head : Option ℕ → Head
+fill_head (Some b) = Head.Bytes (Line.RespondAndFill b)
+fill_head None = Head.Plain
 
-abbrev pub slave_head : Value → Value → Head
-slave_head (Is form) fill = if eqb form 2 then Head.Bytes Line.Respond else (if eqb form 4 then fill_head fill else Head.Plain)
-slave_head No fill = Head.Plain
+abbrev pub slave_head : Option ℕ → Option ℕ → Head
+slave_head (Some form) fill = if eqb form 2 then Head.Bytes Line.Respond else (if eqb form 4 then fill_head fill else Head.Plain)
+slave_head None fill = Head.Plain
 
-abbrev pub head_by : Value → Value → Value → Head
-head_by (Is kind) form fill = if eqb kind 0x10 then Head.Bytes Line.Write else (if eqb kind 0x03 then slave_head form fill else Head.Plain)
-head_by No form fill = Head.Plain
+abbrev pub head_by : Option ℕ → Option ℕ → Option ℕ → Head
+head_by (Some kind) form fill = if eqb kind 0x10 then Head.Bytes Line.Write else (if eqb kind 0x03 then slave_head form fill else Head.Plain)
+head_by None form fill = Head.Plain
 
 abbrev pub head_of : List ℕ → Head
 head_of line = head_by (number_at line 0 2) (number_at line 2 2) (number_at line 4 2)
@@ -103,11 +101,11 @@ width Line.Write = 2
 width Line.Respond = 4
 width (Line.RespondAndFill b) = 6
 
-abbrev pub bytes_frame : Line → Bytes → Frame
-bytes_frame l none = bad
-bytes_frame Line.Write (these bs) = write bs
-bytes_frame Line.Respond (these bs) = opens Respond (writes bs ∷ [])
-bytes_frame (Line.RespondAndFill b) (these bs) = opens (RespondAndFill b) (writes bs ∷ [])
+abbrev pub bytes_frame : Line → Option (List ℕ) → Frame
+bytes_frame l None = bad
+bytes_frame Line.Write (Some bs) = write bs
+bytes_frame Line.Respond (Some bs) = opens Respond (writes bs ∷ [])
+bytes_frame (Line.RespondAndFill b) (Some bs) = opens (RespondAndFill b) (writes bs ∷ [])
 
 -- ---- any line
 

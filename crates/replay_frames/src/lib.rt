@@ -9,7 +9,7 @@ ghost use Rattle.replay_frames.specs.Frame.{slave_head, head_of, width};
 ghost use Rattle.replay_frames.specs.Inner.Short.{as_frame};
 
 use replay_calls::Call;
-use text_hex::digits::{Value, number};
+use text_hex::digits::number;
 
 // The frames that end in bytes.
 #[derive(Clone, Copy)]
@@ -36,43 +36,43 @@ pub enum Short {
     Bad,
 }
 
-fn clock(frequency: Value, clk: Value) -> Short
+fn clock(frequency: Option<u32>, clk: Option<u32>) -> Short
     ensures { as_frame result ≡ clock_of frequency clk }
 {
     match frequency {
-        Value::Is(f) => match clk {
-            Value::Is(c) => Short::Opens(Call::Clock(f, c)),
-            Value::No => Short::Bad,
+        Some(f) => match clk {
+            Some(c) => Short::Opens(Call::Clock(f, c)),
+            None => Short::Bad,
         },
-        Value::No => Short::Bad,
+        None => Short::Bad,
     }
 }
 
-fn master(form: Value, address: Value) -> Short
+fn master(form: Option<u32>, address: Option<u32>) -> Short
     requires { Below 4 address }
     ensures { as_frame result ≡ master_of form address }
 {
     match form {
-        Value::Is(f) => match address {
-            Value::Is(a) => {
+        Some(f) => match address {
+            Some(a) => {
                 if f < 16 {
                     return Short::Opens(Call::Master(f as u8, a as u16));
                 }
                 Short::Bad
             }
-            Value::No => Short::Bad,
+            None => Short::Bad,
         },
-        Value::No => Short::Bad,
+        None => Short::Bad,
     }
 }
 
-fn reset(address: Value, general: Value) -> Short
+fn reset(address: Option<u32>, general: Option<u32>) -> Short
     requires { Below 4 address }
     ensures { as_frame result ≡ reset_of address general }
 {
     match address {
-        Value::Is(a) => match general {
-            Value::Is(g) => {
+        Some(a) => match general {
+            Some(g) => {
                 if g == 0 {
                     return Short::Opens(Call::Reset(a as u16, false));
                 }
@@ -81,58 +81,58 @@ fn reset(address: Value, general: Value) -> Short
                 }
                 Short::Bad
             }
-            Value::No => Short::Bad,
+            None => Short::Bad,
         },
-        Value::No => Short::Bad,
+        None => Short::Bad,
     }
 }
 
-fn listen(places: Value) -> Short
+fn listen(places: Option<u32>) -> Short
     requires { Below 4 places }
     ensures { as_frame result ≡ listen_of places }
 {
     match places {
-        Value::Is(n) => Short::Opens(Call::Listen(n as u16)),
-        Value::No => Short::Bad,
+        Some(n) => Short::Opens(Call::Listen(n as u16)),
+        None => Short::Bad,
     }
 }
 
-fn fill(byte: Value) -> Short
+fn fill(byte: Option<u32>) -> Short
     requires { Below 2 byte }
     ensures { as_frame result ≡ fill_of byte }
 {
     match byte {
-        Value::Is(b) => Short::Opens(Call::Fill(b as u8)),
-        Value::No => Short::Bad,
+        Some(b) => Short::Opens(Call::Fill(b as u8)),
+        None => Short::Bad,
     }
 }
 
-fn read(places: Value) -> Short
+fn read(places: Option<u32>) -> Short
     requires { Below 4 places }
     ensures { as_frame result ≡ read_of places }
 {
     match places {
-        Value::Is(n) => Short::Read(n as u16),
-        Value::No => Short::Bad,
+        Some(n) => Short::Read(n as u16),
+        None => Short::Bad,
     }
 }
 
-fn reading(word: Value) -> Short
+fn reading(word: Option<u32>) -> Short
     ensures { as_frame result ≡ reading_of word }
 {
     match word {
-        Value::Is(w) => Short::Reading(w),
-        Value::No => Short::Bad,
+        Some(w) => Short::Reading(w),
+        None => Short::Bad,
     }
 }
 
 // The slave's call frames that have no bytes.
-fn slave(line: &[u8], form: Value) -> Short
+fn slave(line: &[u8], form: Option<u32>) -> Short
     ensures { as_frame result ≡ slave_of line.now form }
 {
     let n = line.len();
     match form {
-        Value::Is(f) => {
+        Some(f) => {
             if f == 0 {
                 if n == 10 {
                     return reset(number(line, 4, 4), number(line, 8, 2));
@@ -153,26 +153,26 @@ fn slave(line: &[u8], form: Value) -> Short
             }
             Short::Bad
         }
-        Value::No => Short::Bad,
+        None => Short::Bad,
     }
 }
 
 // The number in 2 digits at `at`, none where the line ends before.
-fn byte_at(line: &[u8], at: usize) -> Value
+fn byte_at(line: &[u8], at: usize) -> Option<u32>
     ensures { NumberAs line.now at 2 result }
 {
     let n = line.len();
     if n < at {
-        return Value::No;
+        return None;
     }
     if n - at < 2 {
-        return Value::No;
+        return None;
     }
     number(line, at, 2)
 }
 
 fn of_kind(line: &[u8], kind: u32) -> Short
-    ensures { as_frame result ≡ of_kind line.now (Value.Is kind) }
+    ensures { as_frame result ≡ of_kind line.now (Some kind) }
 {
     let n = line.len();
     if kind == 0x01 {
@@ -216,27 +216,27 @@ pub fn plain(line: &[u8]) -> Short
     ensures { as_frame result ≡ plain_of line.now }
 {
     match byte_at(line, 0) {
-        Value::Is(kind) => of_kind(line, kind),
-        Value::No => Short::Bad,
+        Some(kind) => of_kind(line, kind),
+        None => Short::Bad,
     }
 }
 
-fn fill_head(byte: Value) -> Head
+fn fill_head(byte: Option<u32>) -> Head
     requires { Below 2 byte }
     ensures { result ≡ fill_head byte }
 {
     match byte {
-        Value::Is(b) => Head::Bytes(Line::RespondAndFill(b as u8)),
-        Value::No => Head::Plain,
+        Some(b) => Head::Bytes(Line::RespondAndFill(b as u8)),
+        None => Head::Plain,
     }
 }
 
-fn slave_head(form: Value, fill: Value) -> Head
+fn slave_head(form: Option<u32>, fill: Option<u32>) -> Head
     requires { Below 2 fill }
     ensures { result ≡ slave_head form fill }
 {
     match form {
-        Value::Is(f) => {
+        Some(f) => {
             if f == 2 {
                 return Head::Bytes(Line::Respond);
             }
@@ -245,7 +245,7 @@ fn slave_head(form: Value, fill: Value) -> Head
             }
             Head::Plain
         }
-        Value::No => Head::Plain,
+        None => Head::Plain,
     }
 }
 
@@ -254,7 +254,7 @@ pub fn head_of(line: &[u8]) -> Head
     ensures { result ≡ head_of line.now }
 {
     match byte_at(line, 0) {
-        Value::Is(kind) => {
+        Some(kind) => {
             if kind == 0x10 {
                 return Head::Bytes(Line::Write);
             }
@@ -263,7 +263,7 @@ pub fn head_of(line: &[u8]) -> Head
             }
             Head::Plain
         }
-        Value::No => Head::Plain,
+        None => Head::Plain,
     }
 }
 

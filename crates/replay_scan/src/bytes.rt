@@ -6,7 +6,7 @@ ghost use Rattle.replay_state.specs.Inner.Rest.{PartSound};
 ghost use Rattle.replay_scan.specs.Inner.Bytes.{DigitsAhead, KeptAhead, MovedAs};
 
 use replay_state::{LONGEST_KEPT, Part};
-use text_hex::digits::digit;
+use text_hex::digits::is_digit;
 
 // Where in its line the reader is behind a run, and where the run ends in the chunk.
 #[derive(Clone, Copy)]
@@ -23,7 +23,7 @@ fn digits_ahead(chunk: &[u8], i: usize) -> usize
     let left = chunk.len() - i;
     let mut k: usize = 0;
     while k < left {
-        if 15 < digit(chunk[i + k]) {
+        if !is_digit(chunk[i + k]) {
             return k;
         }
         k += 1;

@@ -8,10 +8,8 @@ use lib.Dec.{ltb}
 use lib.ListN.{length, take, drop, get_or, length-drop}
 use lib.Seq.{get_or-take, get_or-drop, length-take-le}
 use borrow.Author.Tests.{ltb-true, ltb-false}
-use Rattle.std.specs.Prelude.{if◌then◌else◌}
+use Rattle.std.specs.Prelude.{if◌then◌else◌, Option, Some, None}
 use Rattle.text_hex.specs.Text.{digit_of, and_digit, number_at}
-use Rattle.text_hex.specs.declared.digits.Value.{Value}
-use Rattle.text_hex.specs.declared.digits.Value.TheVariants.{Is, No}
 use Rattle.text_hex.proofs.Pairs.{lf_none}
 use Rattle.replay_frames.specs.Frame.{frame_of, reading, reading_of, sized, of_kind, head_of, by_head}
 use Rattle.replay_frames.specs.declared.Head.TheVariants.{Plain}
@@ -19,31 +17,31 @@ use Rattle.replay_state.specs.Inner.Rest.{Ahead}
 use Rattle.replay_scan_readings.specs.Inner.Run.{WordAt, Written, ReadingAt}
 use Rattle.replay_scan_readings.proofs.Scans.{Scanned, scan_none, scan_more, scan_found}
 
-no_number : {v : ℕ} → No ≡ Is v → ⊥
+no_number : {v : ℕ} → None ≡ Some v → ⊥
 no_number e = let z : ◌≡◌ {A = ℕ} 0 1 = ap told e in omega arith
   where
-    told : Value → ℕ
-    told No = 0
-    told (Is x) = 1
+    told : Option ℕ → ℕ
+    told None = 0
+    told (Some x) = 1
 
 -- where a number is, each byte is a digit
-digit_in : (chunk : List ℕ) (at n : ℕ) {v : ℕ} → number_at chunk at n ≡ Is v → (j : ℕ) → j < n → digit_of (get_or chunk (at + j) 0) < 16
+digit_in : (chunk : List ℕ) (at n : ℕ) {v : ℕ} → number_at chunk at n ≡ Some v → (j : ℕ) → j < n → digit_of (get_or chunk (at + j) 0) < 16
 unfolding number_at
 digit_in chunk at zero e j h = absurd (omega arith)
 digit_in chunk at (suc n) {v} e j h = go (number_at chunk at n) refl e
-    (λ (x : ℕ) (f : number_at chunk at n ≡ Is x) (l : j < n). digit_in chunk at n f j l)
+    (λ (x : ℕ) (f : number_at chunk at n ≡ Some x) (l : j < n). digit_in chunk at n f j l)
   where
-    go : (q : Value)
+    go : (q : Option ℕ)
         → number_at chunk at n ≡ q
-        → and_digit q (digit_of (get_or chunk (at + n) 0)) ≡ Is v
-        → ((x : ℕ) → number_at chunk at n ≡ Is x → j < n → digit_of (get_or chunk (at + j) 0) < 16)
+        → and_digit q (digit_of (get_or chunk (at + n) 0)) ≡ Some v
+        → ((x : ℕ) → number_at chunk at n ≡ Some x → j < n → digit_of (get_or chunk (at + j) 0) < 16)
         → digit_of (get_or chunk (at + j) 0) < 16
-    go No f g before = absurd (no_number g)
-    go (Is x) f g before = last (ltb (digit_of (get_or chunk (at + n) 0)) 16) refl g (ltb j n) refl
+    go None f g before = absurd (no_number g)
+    go (Some x) f g before = last (ltb (digit_of (get_or chunk (at + n) 0)) 16) refl g (ltb j n) refl
       where
         last : (b : Bool)
             → ltb (digit_of (get_or chunk (at + n) 0)) 16 ≡ b
-            → (if b then Is (x * 16 + digit_of (get_or chunk (at + n) 0)) else No) ≡ Is v
+            → (if b then Some (x * 16 + digit_of (get_or chunk (at + n) 0)) else None) ≡ Some v
             → (c : Bool)
             → ltb j n ≡ c
             → digit_of (get_or chunk (at + j) 0) < 16
@@ -65,7 +63,7 @@ module _ (chunk : List ℕ) (u w : ℕ) (p : Written chunk u w) where
       let z : u + (at + n) ≡ u + at + n = omega arith in
       rw (moved at n (omega arith), at_line (at + n) (omega arith), z)
 
-  kind : number_at line 0 2 ≡ Is 0x20
+  kind : number_at line 0 2 ≡ Some 0x20
   unfolding number_at digit_of
   kind =
       let z : u + 0 ≡ u = omega arith in
@@ -100,12 +98,12 @@ module _ (chunk : List ℕ) (u w : ℕ) (p : Written chunk u w) where
   a_line = scan_found (scanned 10 (omega arith)) p.inside p.lf
 
 -- what `reading_at` has found
-pub found : (chunk : List ℕ) (i : ℕ) (r : Value)
+pub found : (chunk : List ℕ) (i : ℕ) (r : Option ℕ)
     → WordAt chunk (i + 2) r
     → get_or chunk i 0 ≡ 50
     → get_or chunk (i + 1) 0 ≡ 48
     → get_or chunk (i + 10) 0 ≡ 10
     → i + 10 < length chunk
     → ReadingAt chunk i r
-found chunk i No n a b c h = tt
-found chunk i (Is w) n a b c h = record { two = a; zero = b; word = n; lf = c; inside = h }
+found chunk i None n a b c h = tt
+found chunk i (Some w) n a b c h = record { two = a; zero = b; word = n; lf = c; inside = h }

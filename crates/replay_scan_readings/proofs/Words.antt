@@ -7,9 +7,8 @@ use mathlib.Core.Path.{◌≡◌, refl, ap, ◌∙◌}
 use lib.Dec.{ltb}
 use lib.ListN.{length, get_or}
 use borrow.Author.Tests.{ltb-true}
-use Rattle.std.specs.Prelude.{if◌then◌else◌}
+use Rattle.std.specs.Prelude.{if◌then◌else◌, Some}
 use Rattle.text_hex.specs.Text.{digit_of, number_at}
-use Rattle.text_hex.specs.declared.digits.Value.TheVariants.{Is}
 use Rattle.text_hex.proofs.Numbers.{one_more}
 use Rattle.text_hex.proofs.Tables.{every, at}
 use Rattle.replay_scan_readings.specs.Inner.Run.{marked, DigitValues, PairAt}
@@ -51,15 +50,15 @@ module _ {chunk : List ℕ} {at : ℕ} {r : Pair} (p : PairAt chunk at r) (less 
 
 -- two digits more behind k
 two : (chunk : List ℕ) (i k v : ℕ) (r : Pair)
-    → number_at chunk i k ≡ Is v
+    → number_at chunk i k ≡ Some v
     → PairAt chunk (i + k) r
     → r.sum < 128
-    → number_at chunk i (k + 2) ≡ Is (v * 256 + r.value)
+    → number_at chunk i (k + 2) ≡ Some (v * 256 + r.value)
 two chunk i k v r so_far p l =
     let e : k + 1 + 1 ≡ k + 2 = omega arith in
     let f : i + (k + 1) ≡ i + k + 1 = omega arith in
     let one = one_more chunk i k v _ so_far (high p l).same (high p l).below in
-    (rw e at (one_more chunk i (k + 1) _ _ one (rw f (low p l).same) (low p l).below)) ∙ ap Is (omega (arith, p.value))
+    (rw e at (one_more chunk i (k + 1) _ _ one (rw f (low p l).same) (low p l).below)) ∙ ap Some (omega (arith, p.value))
 
 module _ (chunk : List ℕ) (i : ℕ) {a b c d : Pair} (pa : PairAt chunk i a) (pb : PairAt chunk (i + 2) b)
     (pc : PairAt chunk (i + 4) c) (pd : PairAt chunk (i + 6) d)
@@ -74,11 +73,11 @@ module _ (chunk : List ℕ) (i : ℕ) {a b c d : Pair} (pa : PairAt chunk i a) (
     pair_below pd (omega arith),
   )
 
-  pub eight : number_at chunk i 8 ≡ Is ((a.value * 256 + b.value) * 65536 + (c.value * 256 + d.value))
+  pub eight : number_at chunk i 8 ≡ Some ((a.value * 256 + b.value) * 65536 + (c.value * 256 + d.value))
   unfolding number_at
   eight =
       let z : i + 0 ≡ i = omega arith in
       two chunk i 6 _ d (two chunk i 4 _ c
       (two chunk i 2 _ b (two chunk i 0 0 a refl (rw z pa) (omega arith)) pb (omega arith)) pc (omega arith))
       pd (omega arith)
-      ∙ ap Is (omega arith)
+      ∙ ap Some (omega arith)

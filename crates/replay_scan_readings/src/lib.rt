@@ -11,7 +11,6 @@ ghost use Rattle.replay_scan_readings.specs.Inner.Run.{RanAs, ready_of, state_af
 use replay_session::{Counts, Open, Wants, is_complete};
 use replay_state::turns::next_line;
 use replay_state::{Part, State};
-use text_hex::digits::Value;
 
 // Where a run ends in the chunk, how many readings the call has then, and the number of the next line.
 #[derive(Clone, Copy)]
@@ -53,7 +52,7 @@ fn two_bytes(values: &[u8], chunk: &[u8], at: usize) -> Pair
 }
 
 // The number in 8 bytes from `at` on, if they are digits: 8 digits make less than 128 together.
-fn word(values: &[u8], chunk: &[u8], at: usize) -> Value
+fn word(values: &[u8], chunk: &[u8], at: usize) -> Option<u32>
     requires { DigitValues values.now
         × (at + 8 ≤ length chunk.now) }
     ensures { WordAt chunk.now at result }
@@ -65,20 +64,20 @@ fn word(values: &[u8], chunk: &[u8], at: usize) -> Value
     let high = a.value * 256 + b.value;
     let low = c.value * 256 + d.value;
     if a.sum + b.sum + (c.sum + d.sum) < 128 {
-        return Value::Is((high * 65536 + low) as u32);
+        return Some((high * 65536 + low) as u32);
     }
-    Value::No
+    None
 }
 
 // The word of the reading whose line begins at i, if one does.
-fn reading_at(values: &[u8], chunk: &[u8], i: usize) -> Value
+fn reading_at(values: &[u8], chunk: &[u8], i: usize) -> Option<u32>
     requires { DigitValues values.now
         × (i ≤ length chunk.now) }
     ensures { ReadingAt chunk.now i result }
 {
     let left = chunk.len() - i;
     if left < 11 {
-        return Value::No;
+        return None;
     }
     if chunk[i] == 50 {
         if chunk[i + 1] == 48 {
@@ -87,7 +86,7 @@ fn reading_at(values: &[u8], chunk: &[u8], i: usize) -> Value
             }
         }
     }
-    Value::No
+    None
 }
 
 // Reads readings from i on, as long as they come and the call may have more.
@@ -110,13 +109,13 @@ fn run_by(
     let mut line = number;
     while count < replay_calls::MOST_READINGS {
         match reading_at(values, chunk, used) {
-            Value::Is(w) => {
+            Some(w) => {
                 readings[count] = w;
                 count += 1;
                 line = next_line(line);
                 used += 11;
             }
-            Value::No => return Ran { used, count, line },
+            None => return Ran { used, count, line },
         }
     }
     Ran { used, count, line }

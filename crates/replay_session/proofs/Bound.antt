@@ -9,12 +9,12 @@ use lib.Dec.{ltb}
 use lib.ListN.{length, length-append}
 use borrow.Author.Tests.{ltb-true, lt-ltb}
 use Rattle.regs.proofs.Tests.{false_true}
-use Rattle.std.specs.Prelude.{if◌then◌else◌}
+use Rattle.std.specs.Prelude.{if◌then◌else◌, Some}
 use Rattle.master.specs.Operations.{Operation, writes, reads, READ, WRITE}
 use Rattle.slave.specs.declared.SlaveState.{SlaveState}
 use Rattle.replay_calls.specs.Calls.{MOST_READINGS, Listed, listed, listing, call_text, slave_after}
 use Rattle.replay_calls.specs.declared.Call.{Call}
-use Rattle.text_hex.specs.Text.{lines, these}
+use Rattle.text_hex.specs.Text.{lines}
 use Rattle.replay_frames.specs.Frame.{Frame, opens, write, read, reading, run, bad, bytes_frame, frame_of}
 use Rattle.replay_frames.specs.declared.Line.{Line}
 use Rattle.replay_session.specs.Session.{Next, going, malformed, Session, read_taken, write_taken, complete}
@@ -109,7 +109,7 @@ opens_wide bs h = bounded_more [] (writes bs) ∙ add_wide (bounded (listing [])
 pub wide_alike : (h : Held) (l : Line) (bs cs : List ℕ)
     → 4096 < length bs
     → 4096 < length cs
-    → next_held h (bytes_frame l (these bs)) ≡ next_held h (bytes_frame l (these cs))
+    → next_held h (bytes_frame l (Some bs)) ≡ next_held h (bytes_frame l (Some cs))
 wide_alike (idle s) Line.Write bs cs p q = refl
 wide_alike (idle s) Line.Respond bs cs p q = rw (opens_wide bs p, opens_wide cs q)
 wide_alike (idle s) (Line.RespondAndFill b) bs cs p q = rw (opens_wide bs p, opens_wide cs q)

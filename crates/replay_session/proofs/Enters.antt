@@ -1,4 +1,5 @@
 -- What each frame leads to, from the session that the open call and the lent slices are.
+use Rattle.std.specs.Prelude.{Some, None}
 use Prim.Native.Nat.{ℕ, ◌/◌, ◌<◌}
 use native.Mathlib.Omega.{arith}
 use native.Mathlib.Numerals.{add-one}
@@ -12,7 +13,7 @@ use borrow.Author.Tests.{ltb-true}
 use Rattle.regs.proofs.Tests.{false_true}
 use Rattle.master.specs.Operations.{Operation, writes, reads}
 use Rattle.slave.specs.declared.SlaveState.{SlaveState}
-use Rattle.text_hex.specs.Text.{these, none, bytes_of}
+use Rattle.text_hex.specs.Text.{bytes_of}
 use Rattle.text_hex.specs.Pairs.{whole_pairs, values, PutAt}
 use Rattle.text_hex.proofs.Pairs.{length_values, written, unwritten}
 use Rattle.text_hex.proofs.Appends.{nothing}
@@ -130,13 +131,13 @@ module _ (o : Open) (s : SlaveState) (a : Arrays) (at : ℕ) (out : List ℕ) (g
 
     pub enters_written : (line : Line)
         → EnteredAs (bytes_entered (taken_by line o) n s at) a' out at out
-        (next_held (session_of o s a) (bytes_frame line (these bs)))
+        (next_held (session_of o s a) (bytes_frame line (Some bs)))
     enters_written line = go line o.busy refl
       where
         go : (line : Line) (b : Bool)
             → o.busy ≡ b
             → EnteredAs (bytes_entered (taken_by line o) n s at) a' out at out
-            (next_held (session_of o s a) (bytes_frame line (these bs)))
+            (next_held (session_of o s a) (bytes_frame line (Some bs)))
         go Line.Write true b = rw b (writes_taken (write_taken o.wants))
         go Line.Write false b = rw b (refused l')
         go Line.Respond true b = rw b (refused l')
@@ -149,7 +150,7 @@ module _ (o : Open) (s : SlaveState) (a : Arrays) (at : ℕ) (out : List ℕ) (g
       → 4096 < length bs
       → (line : Line)
       → EnteredAs (bytes_entered (taken_by line o) (over_of o.counts) s at) a out at out
-      (next_held (session_of o s a) (bytes_frame line (these bs)))
+      (next_held (session_of o s a) (bytes_frame line (Some bs)))
   enters_wide bs h line = enters_written (over_of o.counts) a bs (over_within o.counts g.counts) l refl
       refl (kept_wide o.counts a g.counts l bs h) line
 
@@ -181,7 +182,7 @@ module _ (o : Open) (s : SlaveState) (a : Arrays) (at : ℕ) (out : List ℕ) (g
       → EnteredAs Malformed a out at out (next_held (session_of o s a) (bytes_frame line (bytes_of ds)))
   enters_unpaired ds w line = rw (unwritten ds w) (go line)
     where
-      go : (line : Line) → EnteredAs Malformed a out at out (next_held (session_of o s a) (bytes_frame line none))
+      go : (line : Line) → EnteredAs Malformed a out at out (next_held (session_of o s a) (bytes_frame line None))
       go Line.Write = enters_bad
       go Line.Respond = enters_bad
       go (Line.RespondAndFill x) = enters_bad

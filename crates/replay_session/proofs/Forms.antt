@@ -6,14 +6,12 @@ use mathlib.Core.List.{List, [], ◌∷◌, ◌++◌}
 use mathlib.Core.Path.{◌≡◌, refl, ap, ◌∙◌}
 use lib.Dec.{eqb, ltb}
 use lib.ListN.{length}
-use Rattle.std.specs.Prelude.{if◌then◌else◌}
+use Rattle.std.specs.Prelude.{if◌then◌else◌, Option, Some, None}
 use Rattle.regs.proofs.Tests.{false_true}
 use Rattle.master.specs.Operations.{Operation, writes, reads}
 use Rattle.replay_calls.specs.declared.Call.{Call}
 use Rattle.replay_calls.specs.declared.Call.TheVariants.{Clock, Master, Reset, Listen, Respond, Fill, RespondAndFill}
-use Rattle.text_hex.specs.Text.{number_at, Bytes, these, none, bytes_of}
-use Rattle.text_hex.specs.declared.digits.Value.{Value}
-use Rattle.text_hex.specs.declared.digits.Value.TheVariants.{Is, No}
+use Rattle.text_hex.specs.Text.{number_at, bytes_of}
 use Rattle.replay_frames.specs.Frame.{Frame, opens, write, read, reading, run, bad, frame_of, by_head, bytes_frame}
 use Rattle.replay_frames.specs.Frame.{of_kind, slave_of, sized, clock_of, master_of, reset_of, listen_of, fill_of}
 use Rattle.replay_frames.specs.Frame.{read_of, reading_of, head_of}
@@ -118,49 +116,49 @@ is_run = record { right = tt }
 sized_right : (line : List ℕ) (n : ℕ) {f : Frame} → Right f → Right (sized line n f)
 sized_right line n p = either (eqb (length line) n) p is_bad
 
-clock_right : (f c : Value) → Right (clock_of f c)
-clock_right (Is f) (Is c) = opened (Clock f c) [] (came_none Nothing)
-clock_right (Is f) No = is_bad
-clock_right No c = is_bad
+clock_right : (f c : Option ℕ) → Right (clock_of f c)
+clock_right (Some f) (Some c) = opened (Clock f c) [] (came_none Nothing)
+clock_right (Some f) None = is_bad
+clock_right None c = is_bad
 
-master_right : (f a : Value) → Right (master_of f a)
-master_right (Is form) (Is address) = either (ltb form 16) (opened (Master form address) [] (came_none (wants_by form))) is_bad
-master_right (Is form) No = is_bad
-master_right No address = is_bad
+master_right : (f a : Option ℕ) → Right (master_of f a)
+master_right (Some form) (Some address) = either (ltb form 16) (opened (Master form address) [] (came_none (wants_by form))) is_bad
+master_right (Some form) None = is_bad
+master_right None address = is_bad
 
-reset_right : (a g : Value) → Right (reset_of a g)
-reset_right (Is address) (Is g) =
+reset_right : (a g : Option ℕ) → Right (reset_of a g)
+reset_right (Some address) (Some g) =
     either (eqb g 0) (opened (Reset address false) [] (came_none Nothing))
     (either (eqb g 1) (opened (Reset address true) [] (came_none Nothing)) is_bad)
-reset_right (Is address) No = is_bad
-reset_right No g = is_bad
+reset_right (Some address) None = is_bad
+reset_right None g = is_bad
 
-listen_right : (n : Value) → Right (listen_of n)
-listen_right (Is n) = record { right = came_none Nothing }
-listen_right No = is_bad
+listen_right : (n : Option ℕ) → Right (listen_of n)
+listen_right (Some n) = record { right = came_none Nothing }
+listen_right None = is_bad
 
-fill_right : (b : Value) → Right (fill_of b)
-fill_right (Is b) = record { right = came_none Nothing }
-fill_right No = is_bad
+fill_right : (b : Option ℕ) → Right (fill_of b)
+fill_right (Some b) = record { right = came_none Nothing }
+fill_right None = is_bad
 
-read_right : (n : Value) → Right (read_of n)
-read_right (Is n) = record { right = tt }
-read_right No = is_bad
+read_right : (n : Option ℕ) → Right (read_of n)
+read_right (Some n) = record { right = tt }
+read_right None = is_bad
 
-reading_right : (w : Value) → Right (reading_of w)
-reading_right (Is w) = record { right = tt }
-reading_right No = is_bad
+reading_right : (w : Option ℕ) → Right (reading_of w)
+reading_right (Some w) = record { right = tt }
+reading_right None = is_bad
 
-slave_right : (line : List ℕ) (form : Value) → Right (slave_of line form)
-slave_right line No = is_bad
-slave_right line (Is form) =
+slave_right : (line : List ℕ) (form : Option ℕ) → Right (slave_of line form)
+slave_right line None = is_bad
+slave_right line (Some form) =
     either (eqb form 0) (sized_right line 10 (reset_right (number_at line 4 4) (number_at line 8 2)))
     (either (eqb form 1) (sized_right line 8 (listen_right (number_at line 4 4)))
     (either (eqb form 3) (sized_right line 6 (fill_right (number_at line 4 2))) is_bad))
 
-kind_right : (line : List ℕ) (kind : Value) → Right (of_kind line kind)
-kind_right line No = is_bad
-kind_right line (Is kind) =
+kind_right : (line : List ℕ) (kind : Option ℕ) → Right (of_kind line kind)
+kind_right line None = is_bad
+kind_right line (Some kind) =
     either (eqb kind 0x01) (sized_right line 18 (clock_right (number_at line 2 8) (number_at line 10 8)))
     (either (eqb kind 0x02) (sized_right line 8 (master_right (number_at line 2 2) (number_at line 4 4)))
     (either (eqb kind 0x03) (slave_right line (number_at line 2 2))
@@ -168,14 +166,14 @@ kind_right line (Is kind) =
     (either (eqb kind 0x20) (sized_right line 10 (reading_right (number_at line 2 8)))
     (either (eqb kind 0xFF) (sized_right line 2 is_run) is_bad)))))
 
-bytes_right : (l : Line) (bs : Bytes) → Right (bytes_frame l bs)
+bytes_right : (l : Line) (bs : Option (List ℕ)) → Right (bytes_frame l bs)
 unfolding after
-bytes_right Line.Write none = is_bad
-bytes_right Line.Respond none = is_bad
-bytes_right (Line.RespondAndFill b) none = is_bad
-bytes_right Line.Write (these bs) = record { right = tt }
-bytes_right Line.Respond (these bs) = record { right = came_by refl }
-bytes_right (Line.RespondAndFill b) (these bs) = record { right = came_by refl }
+bytes_right Line.Write None = is_bad
+bytes_right Line.Respond None = is_bad
+bytes_right (Line.RespondAndFill b) None = is_bad
+bytes_right Line.Write (Some bs) = record { right = tt }
+bytes_right Line.Respond (Some bs) = record { right = came_by refl }
+bytes_right (Line.RespondAndFill b) (Some bs) = record { right = came_by refl }
 
 pub frame_right : (line : List ℕ) → Right (frame_of line)
 frame_right line = by (head_of line)

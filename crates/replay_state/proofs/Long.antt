@@ -1,4 +1,5 @@
 -- Lines that are longer than what is kept of them: only whether a digit waits matters.
+use Rattle.std.specs.Prelude.{Some, None}
 use Prim.Native.Nat.{ℕ, zero, suc, ◌+◌, ◌%◌, ◌<◌, ◌≤◌}
 use native.Mathlib.Omega.{arith}
 use mathlib.Core.List.{List, [], ◌∷◌, ◌++◌, append_assoc}
@@ -9,7 +10,7 @@ use lib.ListN.{length, drop, get_or, length-append, length-drop}
 use lib.Seq.{take-append_seam, get_or-take, drop-append-le}
 use borrow.Author.Tests.{ne_eqb, eq-eqb, eqb-true, eqb-false}
 use Rattle.regs.proofs.Tests.{false_true}
-use Rattle.text_hex.specs.Text.{digit_of, number_at, these, none, bytes_of}
+use Rattle.text_hex.specs.Text.{digit_of, number_at, bytes_of}
 use Rattle.text_hex.specs.Pairs.{all_digits, values}
 use Rattle.text_hex.proofs.Pairs.{digits_joined, length_values, written, unwritten}
 use Rattle.replay_frames.specs.Frame.{bad, head_of, width, bytes_frame, frame_of}
@@ -55,7 +56,7 @@ even_width Line.Write = refl
 even_width Line.Respond = refl
 even_width (Line.RespondAndFill b) = refl
 
-bytes_none : (l : Line) → bytes_frame l none ≡ bad
+bytes_none : (l : Line) → bytes_frame l None ≡ bad
 bytes_none Line.Write = refl
 bytes_none Line.Respond = refl
 bytes_none (Line.RespondAndFill b) = refl
@@ -93,7 +94,7 @@ module _ (text : List ℕ) (size : length text ≡ longest_kept) where
     pub pairs : (r : List ℕ)
         → length r % 2 ≡ 0
         → all_digits (digits ++ r) ≡ true
-        → frame_of (text ++ r) ≡ bytes_frame l (these (values (digits ++ r)))
+        → frame_of (text ++ r) ≡ bytes_frame l (Some (values (digits ++ r)))
     pairs r f g = goes_on r ∙ ap (bytes_frame l) (written (digits ++ r) (rw (even, g)))
       where
         even : eqb (length (digits ++ r) % 2) 0 ≡ true
@@ -212,7 +213,7 @@ module _ (text : List ℕ) (size : length text ≡ longest_kept) where
     pub ends_even : (l : Line)
         → head_of text ≡ Bytes l
         → frame_of (text ++ digits_more false) ≡ bytes_frame l
-        (these (values (drop (width l) text ++ digits_more false)))
+        (Some (values (drop (width l) text ++ digits_more false)))
     unfolding all_digits digit_of
     ends_even l e = pairs l e (48 ∷ 48 ∷ []) refl
         (digits_joined (drop (width l) text) (48 ∷ 48 ∷ []) ∙ all (all_digits (drop (width l) text)) (rw e at long))

@@ -1,4 +1,5 @@
 -- Each line and each byte leads from what was to be printed to what is still to be printed.
+use Rattle.std.specs.Prelude.{Some}
 use Prim.Native.Nat.{ℕ, ◌+◌, ◌-◌, ◌<◌, ◌≤◌}
 use native.Mathlib.Omega.{arith}
 use native.Mathlib.Numerals.{add-one}
@@ -11,7 +12,7 @@ use lib.ListN.{length, take, drop, set, length-append, length-set, length-take}
 use lib.Seq.{length-take-le, take-suc-set, take_all, set_out}
 use borrow.Author.Tests.{ltb-true, ltb-false, ne_eqb}
 use Rattle.regs.proofs.Tests.{both_of, false_true}
-use Rattle.text_hex.specs.Text.{lines_after, digit_of, these}
+use Rattle.text_hex.specs.Text.{lines_after, digit_of}
 use Rattle.text_hex.specs.Pairs.{all_digits, values}
 use Rattle.text_hex.specs.Appended.{Appended}
 use Rattle.replay_calls.specs.Inner.Runs.{MOST_TEXT, LOG_WORDS}
@@ -314,7 +315,7 @@ module _ (s : State) (t : List ℕ) (a : Arrays) (b l : List ℕ) (g : Sound (re
             by Plain h q = let z : false ≡ true = rw h at long in absurd (false_true z)
             by (Bytes w) h q =
                 ends a b l g.buffer g.log (10 ∷ []) []
-                (next_held session (bytes_frame w (these (values (drop (width w) t ++ digits_more false)))))
+                (next_held session (bytes_frame w (Some (values (drop (width w) t ++ digits_more false)))))
                 (long_entered (Bytes w) s at) out out' r
                 (enters_wide s.call s.slave a at out g.small g.lent
                 (values (drop (width w) t ++ digits_more false))

@@ -13,7 +13,7 @@ use super::{LONGEST_KEPT, Part, State, Turn, fresh_slave};
 use replay_frames::{Head, head_of, width};
 use replay_session::Entered;
 use replay_session::enter::{closed, enter_wide};
-use text_hex::digits::{all_digits, digit};
+use text_hex::digits::{all_digits, is_digit};
 use text_hex::print;
 
 pub fn next_line(line: u32) -> u32
@@ -94,7 +94,7 @@ pub fn skip(x: u8, odd: bool, s: State, out: &mut [u8], at: usize) -> Turn
     ensures { TurnedTo s (Part.Long (not odd)) at out.old out.new result
         (ltb (digit_of x) 16) }
 {
-    if digit(x) < 16 {
+    if is_digit(x) {
         return go_on(s, Part::Long(!odd), at);
     }
     stop(s.line, out, at)

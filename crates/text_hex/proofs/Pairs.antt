@@ -10,8 +10,8 @@ use lib.ListN.{length, take, drop, get_or, set, length-set, drop_of_length-le}
 use lib.Seq.{drop-cons, take-suc, take-suc-set, take-set-le, take_all}
 use borrow.Author.Tests.{ltb-true, ltb-false}
 use Rattle.regs.proofs.Tests.{both_of}
-use Rattle.std.specs.Prelude.{if◌then◌else◌}
-use Rattle.text_hex.specs.Text.{LF, digit_of, Bytes, these, none, and_bytes, bytes_of}
+use Rattle.std.specs.Prelude.{if◌then◌else◌, Option, Some, None}
+use Rattle.text_hex.specs.Text.{LF, digit_of, and_bytes, bytes_of}
 use Rattle.text_hex.specs.Pairs.{all_digits, whole_pairs, values, PutAt}
 
 -- ---- every byte a digit
@@ -23,12 +23,11 @@ unfolding all_digits
 digit_next ds i h = rw (drop-cons ds i 0 h, add-one)
 
 -- one more byte is looked at, after what was found of those before
-pub digit_more : (b : Bool) (ds : List ℕ) (i : ℕ) {d : ℕ}
+pub digit_more : (b : Bool) (ds : List ℕ) (i : ℕ)
     → i < length ds
-    → d ≡ digit_of (get_or ds i 0)
-    → (b && ltb d 16) && all_digits (drop (i + 1) ds) ≡ b && all_digits (drop i ds)
-digit_more true ds i h e = rw e (sym (digit_next ds i h))
-digit_more false ds i h e = refl
+    → (b && ltb (digit_of (get_or ds i 0)) 16) && all_digits (drop (i + 1) ds) ≡ b && all_digits (drop i ds)
+digit_more true ds i h = sym (digit_next ds i h)
+digit_more false ds i h = refl
 
 pub digits_end : (b : Bool) (ds : List ℕ) (i : ℕ) → length ds ≤ i → b && all_digits (drop i ds) ≡ b
 unfolding all_digits
@@ -105,8 +104,8 @@ pair_digits ds i e h =
     (digit_at ds (2 * i) f (omega arith), digit_at ds (2 * i + 1) f (omega arith))
 
 -- what pairs of digits write, and that nothing else writes bytes
-abbrev told : List ℕ → Bool → Bytes
-told ds b = if b then these (values ds) else none
+abbrev told : List ℕ → Bool → Option (List ℕ)
+told ds b = if b then Some (values ds) else None
 
 pub bytes_told : (ds : List ℕ) → bytes_of ds ≡ told ds (whole_pairs ds)
 unfolding bytes_of all_digits values
@@ -129,10 +128,10 @@ bytes_told (c ∷ d ∷ cs) = rw (bytes_told cs, even)
     go false b true false p q r t = rw (r, t, p)
     go a b false f p q r t = rw r
 
-pub written : (ds : List ℕ) → whole_pairs ds ≡ true → bytes_of ds ≡ these (values ds)
+pub written : (ds : List ℕ) → whole_pairs ds ≡ true → bytes_of ds ≡ Some (values ds)
 written ds e = bytes_told ds ∙ rw e
 
-pub unwritten : (ds : List ℕ) → whole_pairs ds ≡ false → bytes_of ds ≡ none
+pub unwritten : (ds : List ℕ) → whole_pairs ds ≡ false → bytes_of ds ≡ None
 unwritten ds e = bytes_told ds ∙ rw e
 
 -- ---- put into a buffer

@@ -1,15 +1,13 @@
 -- Numbers that fit their digits, and text put into a lent buffer behind what stands there.
-use Rattle.std.specs.Prelude.{ℕ, ◌+◌, ◌*◌, ◌^◌, ◌≤◌, ◌<◌, List, ◌++◌, ◌≡◌, take}
+use Rattle.std.specs.Prelude.{ℕ, ◌+◌, ◌*◌, ◌^◌, ◌≤◌, ◌<◌, List, ◌++◌, ◌≡◌, take, Option, Some, None}
 use Rattle.text_hex.specs.Text.{number_at}
-use Rattle.text_hex.specs.declared.digits.Value.{Value}
-use Rattle.text_hex.specs.declared.digits.Value.TheVariants.{Is, No}
 
 -- what n digits write is below 16 to the n
-abbrev pub Below : ℕ → Value → Type 0
-Below n (Is v) = v < 2 ^ (4 * n)
-Below n No = Unit {0}
+abbrev pub Below : ℕ → Option ℕ → Type 0
+Below n (Some v) = v < 2 ^ (4 * n)
+Below n None = Unit {0}
 
-pub record NumberAs (line : List ℕ) (at n : ℕ) (r : Value) : Type 0 where
+pub record NumberAs (line : List ℕ) (at n : ℕ) (r : Option ℕ) : Type 0 where
   pub same : r ≡ number_at line at n
   pub below : Below n r
 

@@ -1,7 +1,5 @@
 -- Lines, digits and numbers: how the bytes of the input are read, and how numbers are written.
-use Rattle.std.specs.Prelude.{ℕ, zero, suc, ◌+◌, ◌*◌, ◌-◌, ◌/◌, ◌%◌, ◌^◌, List, [], ◌∷◌, ◌++◌, eqb, ltb, get_or, if◌then◌else◌}
-use Rattle.text_hex.specs.declared.digits.Value.{Value}
-use Rattle.text_hex.specs.declared.digits.Value.TheVariants.{Is, No}
+use Rattle.std.specs.Prelude.{ℕ, zero, suc, ◌+◌, ◌*◌, ◌-◌, ◌/◌, ◌%◌, ◌^◌, List, [], ◌∷◌, ◌++◌, eqb, ltb, get_or, if◌then◌else◌, Option, Some, None}
 
 -- the byte that ends a line
 abbrev pub LF : ℕ
@@ -28,27 +26,27 @@ digit_of c =
     (if ltb c 65 then 16 else
     (if ltb c 71 then c - 55 else 16)))
 
-abbrev pub and_digit : Value → ℕ → Value
-and_digit No d = No
-and_digit (Is v) d = if ltb d 16 then Is (v * 16 + d) else No
+-- the value of a digit, if the byte is one
+abbrev pub digit_in : ℕ → Option ℕ
+digit_in c = if ltb (digit_of c) 16 then Some (digit_of c) else None
+
+abbrev pub and_digit : Option ℕ → ℕ → Option ℕ
+and_digit None d = None
+and_digit (Some v) d = if ltb d 16 then Some (v * 16 + d) else None
 
 -- the number that the n bytes of a line from `at` on write, if they are digits. Past the end of the line stands 0, which is no digit.
-unfoldable pub number_at : List ℕ → ℕ → ℕ → Value
-number_at line at zero = Is 0
+unfoldable pub number_at : List ℕ → ℕ → ℕ → Option ℕ
+number_at line at zero = Some 0
 number_at line at (suc n) = and_digit (number_at line at n) (digit_of (get_or line (at + n) 0))
 
+abbrev pub and_bytes : ℕ → ℕ → Option (List ℕ) → Option (List ℕ)
+and_bytes high low None = None
+and_bytes high low (Some bytes) = if ltb high 16 then (if ltb low 16 then Some ((high * 16 + low) ∷ bytes) else None) else None
+
 -- the bytes that pairs of digits write, if they are pairs of digits
-pub data Bytes : Type 0 where
-  these : List ℕ → Bytes
-  none : Bytes
-
-abbrev pub and_bytes : ℕ → ℕ → Bytes → Bytes
-and_bytes high low none = none
-and_bytes high low (these bytes) = if ltb high 16 then (if ltb low 16 then these ((high * 16 + low) ∷ bytes) else none) else none
-
-unfoldable pub bytes_of : List ℕ → Bytes
-bytes_of [] = these []
-bytes_of (c ∷ []) = none
+unfoldable pub bytes_of : List ℕ → Option (List ℕ)
+bytes_of [] = Some []
+bytes_of (c ∷ []) = None
 bytes_of (c ∷ d ∷ cs) = and_bytes (digit_of c) (digit_of d) (bytes_of cs)
 
 -- the character of a digit

@@ -1,8 +1,8 @@
 -- `push_frame`: a match on the frame; each arm is its callee's contract for that case of `frame_text`, raised
 -- by `within` to 16900 bytes. A buffer's text has at most 16 + 2 * 8194 bytes by the required length of the
--- line; Unknown adds nothing (`nothing`).
+-- line.
 use native.Mathlib.Omega.{arith}
-use Rattle.text_hex.proofs.Appends.{nothing, within}
+use Rattle.text_hex.proofs.Appends.{within}
 use Rattle.explain_frames.specs.Texts.{frame_text}
 use Rattle.explain_frames.proofs.push_frame.Goals as goal
 
@@ -30,7 +30,3 @@ returns-in-Buffer c = rw c.in-Buffer.is
 pub returns-in-Answer : goal.returns-in-Answer
 unfolding frame_text
 returns-in-Answer c = rw c.in-Answer.is (within 16900 (omega arith) c.push_answer.ensures)
-
-pub returns-in-Unknown : goal.returns-in-Unknown
-unfolding frame_text
-returns-in-Unknown c = rw c.in-Unknown.is (nothing _ _ _)

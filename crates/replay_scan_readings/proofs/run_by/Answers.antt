@@ -6,5 +6,5 @@ use Rattle.replay_scan_readings.proofs.run_by.Goals as goal
 
 pub loop-count-preserved : goal.loop-count-preserved
 loop-count-preserved c = rw c.next_line-line.ensures
-    (run_more c.loop-count.invariant _ (rw c.in-Is.is at c.reading_at.ensures)
+    (run_more c.loop-count.invariant _ (rw c.in-Some.is at c.reading_at.ensures)
     c.loop-count-test.true)

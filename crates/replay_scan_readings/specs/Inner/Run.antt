@@ -1,9 +1,7 @@
 -- Lines of readings one after the other: what is still printed behind them. Contracts of inner functions cite this.
-use Rattle.std.specs.Prelude.{ℕ, ◌+◌, ◌*◌, ◌≤◌, ◌<◌, List, [], ◌++◌, Bool, true, false, ◌&&◌, ◌≡◌, ltb, eqb, length, take, drop, get_or, if◌then◌else◌}
+use Rattle.std.specs.Prelude.{ℕ, ◌+◌, ◌*◌, ◌≤◌, ◌<◌, List, [], ◌++◌, Bool, true, false, ◌&&◌, ◌≡◌, ltb, eqb, length, take, drop, get_or, if◌then◌else◌, Option, Some, None}
 use Rattle.slave.specs.declared.SlaveState.{SlaveState}
 use Rattle.text_hex.specs.Text.{digit_of, number_at}
-use Rattle.text_hex.specs.declared.digits.Value.{Value}
-use Rattle.text_hex.specs.declared.digits.Value.TheVariants.{Is, No}
 use Rattle.replay_calls.specs.Calls.{MOST_READINGS}
 use Rattle.replay_calls.specs.declared.Call.{Call}
 use Rattle.replay_session.specs.Session.{complete}
@@ -36,21 +34,21 @@ pub record PairAt (chunk : List ℕ) (at : ℕ) (r : Pair) : Type 0 where
   pub small : r.value ≤ 2176
 
 -- a number that was found is that of the 8 digits at `at`
-abbrev pub WordAt : List ℕ → ℕ → Value → Type 0
-WordAt chunk at No = Unit {0}
-WordAt chunk at (Is w) = number_at chunk at 8 ≡ Is w
+abbrev pub WordAt : List ℕ → ℕ → Option ℕ → Type 0
+WordAt chunk at None = Unit {0}
+WordAt chunk at (Some w) = number_at chunk at 8 ≡ Some w
 
 -- at i stand `20`, the 8 digits of w, and an LF
 pub record Written (chunk : List ℕ) (i w : ℕ) : Type 0 where
   pub two : get_or chunk i 0 ≡ 50
   pub zero : get_or chunk (i + 1) 0 ≡ 48
-  pub word : number_at chunk (i + 2) 8 ≡ Is w
+  pub word : number_at chunk (i + 2) 8 ≡ Some w
   pub lf : get_or chunk (i + 10) 0 ≡ 10
   pub inside : i + 10 < length chunk
 
-abbrev pub ReadingAt : List ℕ → ℕ → Value → Type 0
-ReadingAt chunk i No = Unit {0}
-ReadingAt chunk i (Is w) = Written chunk i w
+abbrev pub ReadingAt : List ℕ → ℕ → Option ℕ → Type 0
+ReadingAt chunk i None = Unit {0}
+ReadingAt chunk i (Some w) = Written chunk i w
 
 -- the first reading ends what the call may still want
 abbrev pub wants_after : ℕ → ℕ → Wants → Wants

@@ -2,6 +2,8 @@
 -- of proofs/Skipped.antt adds a byte where the test found its digit below 16. `k < left` puts i + k in the
 -- chunk; `length chunk - k` decreases.
 use native.Mathlib.Omega.{arith}
+use mathlib.Core.Path.{sym, ◌∙◌}
+use borrow.Author.Tests.{ltb-true}
 use Rattle.replay_scan.proofs.Skipped.{skipped_none, skipped_more}
 use Rattle.replay_scan.proofs.bytes.digits_ahead.Goals as goal
 
@@ -10,4 +12,4 @@ loop-k-init c = skipped_none _ _ c.requires
 
 pub loop-k-preserved : goal.loop-k-preserved
 loop-k-preserved c = skipped_more c.loop-k.invariant (omega (arith, c.loop-k-test.true, c.requires))
-    (omega (arith, c.digit.ensures, c.if-digit-gt15.false))
+    (ltb-true _ _ (sym c.is_digit.ensures ∙ c.if-not-is_digit.false))

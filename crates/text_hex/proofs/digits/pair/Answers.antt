@@ -7,16 +7,16 @@ use Rattle.text_hex.proofs.Pairs.{pair_digits, value_at}
 use Rattle.text_hex.proofs.digits.pair.Goals as goal
 
 pub digit_value-high-requires : goal.digit_value-high-requires
-digit_value-high-requires c = (pair_digits c.args.ds.now c.args.i c.requires.0 c.requires.1).0
+digit_value-high-requires c = (pair_digits c.args.ds.now c.args.i c.requires.digits c.requires.within).0
 
 pub digit_value-low-requires : goal.digit_value-low-requires
-digit_value-low-requires c = (pair_digits c.args.ds.now c.args.i c.requires.0 c.requires.1).1
+digit_value-low-requires c = (pair_digits c.args.ds.now c.args.i c.requires.digits c.requires.within).1
 
 pub overflow_mul-result : goal.overflow_mul-result
 overflow_mul-result c = omega (
   arith,
   c.digit_value-high.ensures,
-  pair_digits c.args.ds.now c.args.i c.requires.0 c.requires.1,
+  pair_digits c.args.ds.now c.args.i c.requires.digits c.requires.within,
 )
 
 pub overflow_add-result : goal.overflow_add-result
@@ -24,9 +24,9 @@ overflow_add-result c = omega (
   arith,
   c.digit_value-high.ensures,
   c.digit_value-low.ensures,
-  pair_digits c.args.ds.now c.args.i c.requires.0 c.requires.1,
+  pair_digits c.args.ds.now c.args.i c.requires.digits c.requires.within,
 )
 
 pub returns : goal.returns
 returns c = rw (c.digit_value-high.ensures, c.digit_value-low.ensures)
-    (sym (value_at c.args.ds.now c.args.i c.requires.1))
+    (sym (value_at c.args.ds.now c.args.i c.requires.within))
