@@ -146,9 +146,10 @@ def searches():
 
 
 def carried():
+    """A struct that holds its buffers as well has them together: it is no place."""
     for y in TYPES:
         names = [n for n, t in fields(y) if t == "usize" and n in LENGTHS]
-        if names:
+        if names and not any(t.startswith("&") for _, t in fields(y)):
             yield y.file, y.line, f"{y.name}: {', '.join(names)}{mark_c('repr(C)' in y.above)}"
 
 

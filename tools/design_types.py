@@ -14,7 +14,7 @@ NOT_OPTION = {"AbortPoint"}
 # Its first variant is one of several kinds of the same thing, not a missing one.
 NOT_MISSING = {"Wants"}
 # Flags that are a setting of their own: no value beside them depends on them.
-SETTINGS = {"general_call", "restart", "send_stop"}
+SETTINGS = {"coded", "general_call", "restart", "send_stop"}
 NUMBERS = r"^&?(mut )?(\[)?(u8|u16|u32|u64|usize)(; \d+)?\]?$"
 KINDS = {"kind", "kinds", "form", "group", "row", "code", "last", "begin", "number", "which"}
 # Under these names a number of lines, a row of any table, or a packet error code: amounts, no kinds.
