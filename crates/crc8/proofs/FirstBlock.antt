@@ -1,14 +1,14 @@
--- The first block: its bytes are copied to the end of lanes that are 0 (`Copying`), and the start value goes into the
--- first of them, so that the lanes have the code of the block from that value on (`with_start`).
-use Prim.Native.Nat.{ℕ, ◌+◌, ◌%◌, ◌<◌, ◌≤◌}
-use native.Mathlib.Numerals.{add-one}
+-- The first block: its bytes are copied to the end of lanes that are 0 (`at_end`), and the start value goes into the
+-- first of them, so that the lanes have the code of the block from that value on (`begun`).
+use Prim.Native.Nat.{ℕ, ◌+◌, ◌-◌, ◌%◌, ◌<◌, ◌≤◌}
 use native.Mathlib.Omega.{arith}
 use mathlib.Core.List.{List, [], ◌∷◌, ◌++◌, append-nil}
 use mathlib.Core.Path.{◌≡◌, sym, ap, ap₂, ◌∙◌}
-use lib.Bits.{bit_xor, xor_mod, xor_zero_l}
-use lib.ListN.{length, take, drop, get_or, set, replicate, length-replicate, length-set, replicate-append-replicate}
+use borrow.Rule.Slice.PartMut.{put_mid}
+use lib.Bits.{bit_xor, xor_comm, xor_mod, xor_zero_l}
+use lib.ListN.{length, take, drop, get_or, set, replicate, length-drop, length-replicate, replicate-append-replicate}
 use lib.ListN.{drop_of_length-le}
-use lib.Seq.{paste, paste-zero, paste-suc, length-paste, length-take-le, take_at, set_at, get_or_at}
+use lib.Seq.{take_at, set_at, get_or_at}
 use Rattle.crc8.specs.Crc8.{after_byte, crc8_from, crc8}
 use Rattle.crc8.specs.Inner.Lanes.{LANES}
 use Rattle.crc8.proofs.Xored.{by_xor, filled}
@@ -38,63 +38,34 @@ with_start start gap (x ∷ block) h l =
     ∙ filled gap (bit_xor start x ∷ block)
     ∙ ap (λ (r : ℕ). crc8_from r block) (in_byte start x h)
 
--- ---- the copy
+-- ---- the bytes at the end of the lanes
 
-abbrev none : List ℕ
-none = replicate LANES 0
+-- the lanes, 0 but for the block at their end
+abbrev pub at_end : List ℕ → List ℕ
+at_end block = put_mid (LANES - length block) (LANES - (LANES - length block)) (replicate LANES 0) block
 
--- what holds after j bytes
-pub record Copying (first gap : ℕ) (bytes lanes : List ℕ) (j : ℕ) : Type 0 where
-  pub same : lanes ≡ paste none gap bytes j
-  pub within : j ≤ first
-  pub enough : first ≤ length bytes
-  pub full : gap + first ≡ LANES
+at_end_is : (block : List ℕ) → length block ≤ LANES → at_end block ≡ replicate (LANES - length block) 0 ++ block
+at_end_is block h =
+    let gap : ℕ = LANES - length block in
+    let front : List ℕ = replicate gap 0 in
+    let size : length front ≡ gap = length-replicate {A = ℕ} gap 0 in
+    let room : LANES ≡ gap + length block = omega arith in
+    let zeros : replicate LANES 0 ≡ front ++ replicate (length block) 0 =
+    ap (λ (n : ℕ). replicate n 0) room ∙ sym (replicate-append-replicate {A = ℕ} gap (length block) 0)
+    in
+    let before : take gap (replicate LANES 0) ≡ front = ap (take gap) zeros ∙ take_at front _ gap size in
+    let behind : drop (LANES - gap) (drop gap (replicate LANES 0)) ≡ [] =
+    drop_of_length-le (drop gap (replicate LANES 0)) {i = LANES - gap}
+    (omega (arith, length-drop {A = ℕ} gap (replicate LANES 0), length-replicate {A = ℕ} LANES 0))
+    in
+    ap₂ (λ (l m : List ℕ). l ++ (block ++ m)) before behind ∙ ap (λ (l : List ℕ). front ++ l) (append-nil block)
 
-pub uncopied : {first gap : ℕ} (bytes : List ℕ) → first ≤ length bytes → gap + first ≡ LANES
-    → Copying first gap bytes (replicate LANES 0) 0
-uncopied {gap = gap} bytes h e = record { same = paste-zero none gap bytes; within = omega arith; enough = h; full = e }
-
-module _ {first gap : ℕ} {bytes lanes : List ℕ} {j : ℕ} (p : Copying first gap bytes lanes j) where
-  pub copied : j < first → Copying first gap bytes (set lanes (gap + j) (get_or bytes j 0)) (j + 1)
-  copied h =
-      let size : length none ≡ LANES = length-replicate {A = ℕ} LANES 0 in
-      record {
-        same =
-            ap (λ (l : List ℕ). set l (gap + j) (get_or bytes j 0)) p.same
-            ∙ paste-suc none gap bytes j 0 (omega (arith, size, p.full)) (omega (arith, p.enough))
-            ∙ ap (λ (n : ℕ). paste none gap bytes n) (sym (add-one j));
-        within = omega arith;
-        enough = p.enough;
-        full = p.full;
-      }
-
-  -- bytes 0, then the block
-  all_copied : first ≤ j → lanes ≡ replicate gap 0 ++ take first bytes
-  all_copied h =
-      let n : j ≡ first = omega (arith, p.within) in
-      let front : List ℕ = replicate gap 0 in
-      let zeros : none ≡ front ++ replicate first 0 =
-      ap (λ (k : ℕ). replicate k 0) (sym p.full) ∙ sym (replicate-append-replicate {A = ℕ} gap first 0)
-      in
-      let before : take gap none ≡ front =
-      ap (take gap) zeros ∙ take_at front (replicate first 0) gap (length-replicate {A = ℕ} gap 0)
-      in
-      let size : length none ≡ LANES = length-replicate {A = ℕ} LANES 0 in
-      let behind : drop (gap + j) none ≡ [] = drop_of_length-le none {i = gap + j} (omega (arith, size, n, p.full)) in
-      p.same
-      ∙ ap₂ (λ (l m : List ℕ). l ++ take j bytes ++ m) before behind
-      ∙ append-nil (front ++ take j bytes)
-      ∙ ap (λ (k : ℕ). front ++ take k bytes) n
-
-  module _ (above : 0 < first) (start : ℕ) (byte : start < 256) (h : first ≤ j) where
-    pub block_size : length (set lanes gap (bit_xor start (get_or lanes gap 0))) ≡ LANES
-    block_size =
-        length-set lanes gap _ ∙ ap length p.same
-        ∙ length-paste none gap bytes j
-        (omega (arith, length-replicate {A = ℕ} LANES 0, p.full, p.within)) (omega (arith, p.enough, p.within))
-        ∙ length-replicate {A = ℕ} LANES 0
-
-    pub block_code : crc8 (set lanes gap (bit_xor start (get_or lanes gap 0))) ≡ crc8_from start (take first bytes)
-    block_code =
-        ap (λ (l : List ℕ). crc8 (set l gap (bit_xor start (get_or l gap 0)))) (all_copied h)
-        ∙ with_start start gap (take first bytes) byte (omega (arith, length-take-le first bytes p.enough))
+-- and with the start value in the block's first byte
+pub begun : (start : ℕ) (block : List ℕ) → start < 256 → 0 < length block → length block ≤ LANES
+    → crc8 (set (at_end block) (LANES - length block) (bit_xor (get_or (at_end block) (LANES - length block) 0) start))
+    ≡ crc8_from start block
+begun start block h l m =
+    let gap : ℕ = LANES - length block in
+    ap (λ (t : List ℕ). crc8 (set t gap (bit_xor (get_or t gap 0) start))) (at_end_is block m)
+    ∙ ap (λ (x : ℕ). crc8 (set (replicate gap 0 ++ block) gap x)) (xor_comm _ start)
+    ∙ with_start start gap block h l

@@ -1,12 +1,14 @@
--- The loops of the lanes: a block is taken in place by place (`Taking`), and a message block by block (`Folding`).
-use Prim.Native.Nat.{ℕ, zero, suc, ◌+◌, ◌-◌, ◌%◌, ◌<◌, ◌≤◌}
+-- The loops of the lanes: a block is taken in place by place (`taken`), and a message block by block (`folded`).
+use Prim.Native.Nat.{ℕ, zero, suc, ◌+◌, ◌-◌, ◌*◌, ◌/◌, ◌%◌, ◌<◌, ◌≤◌}
 use native.Mathlib.Numerals.{add-one}
 use native.Mathlib.Omega.{arith}
-use mathlib.Core.List.{List, [], ◌∷◌, map}
+use mathlib.Core.List.{List, [], ◌∷◌, ◌++◌, map}
 use mathlib.Core.Path.{◌≡◌, refl, sym, ap, ap₂, ◌∙◌}
 use lib.Bits.{bit_xor}
-use lib.ListN.{length, take, drop, get_or, set, length-drop, length-map, take-append-drop, drop_of_length-le}
-use lib.Seq.{drop-drop, length-take-le}
+use lib.ListN.{length, take, drop, get_or, set, length-append, length-drop, length-map, take-append-drop}
+use lib.Seq.{take_all, length-take-le}
+use Rattle.std.specs.Prelude.{fold}
+use Rattle.std.specs.Simd.{first_chunks}
 use Rattle.crc8.specs.Crc8.{crc8_from, crc8}
 use Rattle.crc8.specs.Inner.Lanes.{LANES, after_four, xored, taken_in}
 use Rattle.crc8.proofs.Laws.{in_parts}
@@ -30,7 +32,7 @@ partly_more zero (x ∷ a) (y ∷ b) h l = refl
 partly_more (suc j) (x ∷ a) (y ∷ b) h l =
     ap (λ (t : List ℕ). bit_xor (after_four x) y ∷ t) (partly_more j a b (omega arith) (omega arith))
 
-partly_all : (n : ℕ) (a b : List ℕ) → length a ≡ n → length b ≡ n → partly n a b ≡ taken_in a b
+pub partly_all : (n : ℕ) (a b : List ℕ) → length a ≡ n → length b ≡ n → partly n a b ≡ taken_in a b
 unfolding partly xored
 partly_all zero [] b e f = refl
 partly_all zero (x ∷ a) b e f = absurd (omega arith)
@@ -39,31 +41,14 @@ partly_all (suc n) (x ∷ a) [] e f = absurd (omega arith)
 partly_all (suc n) (x ∷ a) (y ∷ b) e f =
     ap (λ (t : List ℕ). bit_xor (after_four x) y ∷ t) (partly_all n a b (omega arith) (omega arith))
 
-pub record Taking (before block after : List ℕ) (j : ℕ) : Type 0 where
-  pub same : after ≡ partly j before block
-  pub within : j ≤ LANES
-
-pub untaken : (before block : List ℕ) → Taking before block before 0
-unfolding partly
-untaken before block = record { same = refl; within = omega arith }
-
-module _ {before block after : List ℕ} {j : ℕ} (p : Taking before block after j)
-    (e : length before ≡ LANES) (f : length block ≡ LANES) where
-  pub taken : {v : ℕ} → j < LANES → v ≡ after_four (get_or after j 0)
-      → Taking before block (set after j (bit_xor v (get_or block j 0))) (j + 1)
-  taken {v} h w = record {
-    same =
-        ap₂ (λ (l : List ℕ) (x : ℕ). set l j (bit_xor x (get_or block j 0))) p.same
-        (w ∙ ap (λ (l : List ℕ). after_four (get_or l j 0)) p.same)
-        ∙ partly_more j before block (omega arith) (omega arith)
-        ∙ ap (λ (n : ℕ). partly n before block) (sym (add-one j));
-    within = omega arith;
-  }
-
-  pub all_taken : LANES ≤ j → after ≡ taken_in before block
-  all_taken h =
-      let n : j ≡ LANES = omega (arith, p.within) in
-      p.same ∙ partly_all j before block (e ∙ sym n) (f ∙ sym n)
+pub taken : (j : ℕ) (before block after : List ℕ) (v : ℕ) → j < length before → j < length block → after ≡ partly j before block
+    → v ≡ after_four (get_or after j 0)
+    → set after j (bit_xor v (get_or block j 0)) ≡ partly (j + 1) before block
+taken j before block after v h l e w =
+    ap₂ (λ (t : List ℕ) (x : ℕ). set t j (bit_xor x (get_or block j 0))) e
+    (w ∙ ap (λ (t : List ℕ). after_four (get_or t j 0)) e)
+    ∙ partly_more j before block h l
+    ∙ ap (λ (n : ℕ). partly n before block) (sym (add-one j))
 
 -- ---- a message, block by block
 
@@ -77,57 +62,37 @@ length_taken : (a b : List ℕ) → length a ≡ length b → length (taken_in a
 length_taken a b e =
     length_xored (map after_four a) b (length-map a after_four ∙ e) ∙ length-map a after_four
 
--- what holds where the bytes before i are taken into the lanes: whole blocks are left
-pub record Folding (start : ℕ) (bytes lanes : List ℕ) (i : ℕ) : Type 0 where
-  pub same : crc8_from (crc8 lanes) (drop i bytes) ≡ crc8_from start bytes
-  pub size : length lanes ≡ LANES
-  pub within : i ≤ length bytes
-  pub blocks : (length bytes - i) % LANES ≡ 0
+pub folded : (k : ℕ) (lanes bytes : List ℕ) → length lanes ≡ LANES → length bytes ≡ k * LANES
+    → crc8 (fold taken_in lanes (first_chunks LANES k bytes)) ≡ crc8_from (crc8 lanes) bytes
+unfolding crc8_from
+folded zero lanes [] e f = refl
+folded zero lanes (x ∷ bytes) e f = absurd (omega arith)
+folded (suc k) lanes bytes e f =
+    let block : List ℕ = take LANES bytes in
+    let rest : List ℕ = drop LANES bytes in
+    let size : length block ≡ LANES = length-take-le LANES bytes (omega arith) in
+    let left : length rest ≡ k * LANES = length-drop LANES bytes ∙ omega arith in
+    folded k (taken_in lanes block) rest (length_taken lanes block (e ∙ sym size) ∙ e) left
+    ∙ ap (λ (z : ℕ). crc8_from z rest) (sym (step lanes block e size))
+    ∙ sym (in_parts (crc8 lanes) block rest)
+    ∙ ap (crc8_from (crc8 lanes)) (take-append-drop LANES bytes)
 
-pub first_in : (start : ℕ) (bytes lanes : List ℕ) (i : ℕ) → 0 < length bytes → i ≡ (length bytes - 1) % LANES + 1
+-- the first block, of what is left over, and then the whole ones
+pub whole : (start : ℕ) (bytes front rest lanes after : List ℕ) (blocks : List (List ℕ)) (i : ℕ)
+    → bytes ≡ front ++ rest
+    → 0 < length bytes
+    → length front ≡ (length bytes - 1) % LANES + 1
+    → blocks ≡ first_chunks LANES (length rest / LANES) rest
     → length lanes ≡ LANES
-    → crc8 lanes ≡ crc8_from start (take i bytes)
-    → Folding start bytes lanes i
-first_in start bytes lanes i h n e f = record {
-  same =
-      ap (λ (z : ℕ). crc8_from z (drop i bytes)) f
-      ∙ sym (in_parts start (take i bytes) (drop i bytes)) ∙ ap (crc8_from start) (take-append-drop i bytes);
-  size = e;
-  within = omega arith;
-  blocks = omega arith;
-}
-
-module _ {start : ℕ} {bytes lanes : List ℕ} {i : ℕ} (p : Folding start bytes lanes i) where
-  pub block_left : i < length bytes → i + LANES ≤ length bytes
-  block_left h = omega (arith, p.blocks)
-
-  -- the block of the bytes from i on, as a range of n of them gives it
-  pub block_size : (n : ℕ) → n ≡ LANES → i < length bytes → length (take n (drop i bytes)) ≡ LANES
-  block_size n m h =
-      length-take-le n (drop i bytes) (omega (arith, m, length-drop i bytes, block_left h)) ∙ m
-
-  pub further : {lanes' : List ℕ} (n : ℕ) → n ≡ LANES → i < length bytes
-      → lanes' ≡ taken_in lanes (take n (drop i bytes))
-      → Folding start bytes lanes' (i + LANES)
-  further {lanes'} n m h e =
-      let block : List ℕ = take n (drop i bytes) in
-      let size : length block ≡ LANES = block_size n m h in
-      let rest : drop n (drop i bytes) ≡ drop (i + LANES) bytes = drop-drop n i bytes ∙ ap (λ (k : ℕ). drop (i + k) bytes) m in
-      let parted : crc8_from (crc8 lanes) (drop i bytes) ≡ crc8_from (crc8_from (crc8 lanes) block) (drop (i + LANES) bytes) =
-      ap (crc8_from (crc8 lanes)) (sym (take-append-drop n (drop i bytes)))
-      ∙ in_parts (crc8 lanes) block (drop n (drop i bytes)) ∙ ap (crc8_from (crc8_from (crc8 lanes) block)) rest
-      in
-      let now_in : crc8_from (crc8 lanes) block ≡ crc8 lanes' = step lanes block p.size size ∙ ap crc8 (sym e) in
-      let room : i + LANES ≤ length bytes = block_left h in
-      record {
-        same = ap (λ (z : ℕ). crc8_from z (drop (i + LANES) bytes)) (sym now_in) ∙ sym parted ∙ p.same;
-        size = ap length e ∙ length_taken lanes block (p.size ∙ sym size) ∙ p.size;
-        within = room;
-        blocks = omega (arith, p.blocks, room);
-      }
-
-  pub all_in : {r : ℕ} → length bytes ≤ i → r ≡ crc8 lanes → r ≡ crc8_from start bytes
-  unfolding crc8_from
-  all_in {r} h e =
-      let s : crc8_from (crc8 lanes) (drop i bytes) ≡ crc8 lanes = rw (drop_of_length-le bytes {i = i} h) in
-      e ∙ sym s ∙ p.same
+    → crc8 lanes ≡ crc8_from start front
+    → after ≡ fold taken_in lanes (take i blocks)
+    → length blocks ≤ i
+    → crc8 after ≡ crc8_from start bytes
+whole start bytes front rest lanes after blocks i parts some short chunked size first e end =
+    let long : length bytes ≡ length front + length rest = ap length parts ∙ length-append front rest in
+    let even : length rest ≡ length rest / LANES * LANES = omega arith in
+    ap crc8 (e ∙ ap (fold taken_in lanes) (take_all i blocks end ∙ chunked))
+    ∙ folded (length rest / LANES) lanes rest size even
+    ∙ ap (λ (z : ℕ). crc8_from z rest) first
+    ∙ sym (in_parts start front rest)
+    ∙ ap (crc8_from start) (sym parts)

@@ -2,7 +2,7 @@
 pub mod Xor
 pub mod Linear
 pub mod Codes
-pub mod Going
+pub mod Fold
 pub mod Back
 pub mod Laws
 pub mod Xored

@@ -4,7 +4,7 @@ ghost use Rattle.crc8.specs.Crc8.{crc8_from, crc8};
 ghost use Rattle.crc8.specs.Inner.Codes.{Codes};
 ghost use Rattle.crc8.specs.Inner.Lanes.{LANES, after_zero, after_four, taken_in};
 
-use super::looked_up;
+use super::crc8_by;
 
 // The register after a bit 0.
 fn after_zero(crc: u8) -> u8
@@ -23,55 +23,38 @@ fn after_four(crc: u8) -> u8
 }
 
 // Takes a further block into the lanes: each lane waits only for itself.
-fn take_in(lanes: &mut [u8; 64], block: &[u8])
-    requires { (length lanes.old ≡ LANES) × (length block.now ≡ LANES) }
+fn take_in(lanes: &mut [u8; 64], block: &[u8; 64])
     ensures { lanes.new ≡ taken_in lanes.old block.now }
 {
-    let mut j: usize = 0;
-    while j < 64 {
-        lanes[j] = after_four(lanes[j]) ^ block[j];
-        j += 1;
+    for (j, lane) in lanes.iter_mut().enumerate() {
+        *lane = after_four(*lane) ^ block[j];
     }
 }
 
-// The first block, of `first` bytes, at the end of the lanes: the bytes 0 before it do not count.
+// The first block, of at most 64 bytes, at the end of the lanes: the bytes 0 before it do not count.
 // The start value is xored into its first byte.
-fn first_block(start: u8, bytes: &[u8], first: usize) -> [u8; 64]
-    requires { (0 < first) × (first ≤ LANES) × (first ≤ length bytes.now) }
-    ensures { (length result ≡ LANES) × (crc8 result ≡ crc8_from start (take first bytes.now)) }
+fn first_block(start: u8, bytes: &[u8]) -> [u8; 64]
+    requires { (0 < length bytes.now) × (length bytes.now ≤ LANES) }
+    ensures { crc8 result ≡ crc8_from start bytes.now }
 {
     let mut lanes = [0u8; 64];
-    let gap = 64 - first;
-    let mut j: usize = 0;
-    while j < first {
-        lanes[gap + j] = bytes[j];
-        j += 1;
-    }
-    lanes[gap] = start ^ lanes[gap];
+    let gap = 64 - bytes.len();
+    lanes[gap..].copy_from_slice(bytes);
+    lanes[gap] ^= start;
     lanes
 }
 
-// The code of the lanes. A lookup waits for the one before it, so four quarters go side by side;
-// 16 zero bytes act as one zero bit, so `after_zero` joins them.
+// The code of the lanes, quarter by quarter. A lookup waits for the one before it, and no quarter waits for
+// another, so four go side by side; 16 zero bytes act as one zero bit, so `after_zero` joins them.
 fn code_of_lanes(table: &[u8; 256], lanes: &[u8; 64]) -> u8
-    requires { Codes table.now × (length lanes.now ≡ LANES) }
+    requires { Codes table.now }
     ensures { result ≡ crc8 lanes.now }
 {
-    let mut a: u8 = 0;
-    let mut b: u8 = 0;
-    let mut c: u8 = 0;
-    let mut d: u8 = 0;
-    let mut j: usize = 0;
-    while j < 16 {
-        a = looked_up(table, a, lanes[j]);
-        b = looked_up(table, b, lanes[j + 16]);
-        c = looked_up(table, c, lanes[j + 32]);
-        d = looked_up(table, d, lanes[j + 48]);
-        j += 1;
-    }
-    let ab = after_zero(a) ^ b;
-    let abc = after_zero(ab) ^ c;
-    after_zero(abc) ^ d
+    let (quarters, _) = lanes.as_chunks::<16>();
+    quarters.iter().fold(
+        0,
+        |crc, quarter| after_zero(crc) ^ crc8_by(table, 0, quarter),
+    )
 }
 
 // The code of a message by the lanes.
@@ -79,12 +62,11 @@ pub fn crc8_by_lanes(table: &[u8; 256], start: u8, bytes: &[u8]) -> u8
     requires { Codes table.now × (0 < length bytes.now) }
     ensures { result ≡ crc8_from start bytes.now }
 {
-    let mut i = (bytes.len() - 1) % 64 + 1;
-    let mut lanes = first_block(start, bytes, i);
-    while i < bytes.len() {
-        let end = i + 64;
-        take_in(&mut lanes, &bytes[i..end]);
-        i = end;
+    let (first, rest) = bytes.split_at((bytes.len() - 1) % 64 + 1);
+    let (blocks, _) = rest.as_chunks::<64>();
+    let mut lanes = first_block(start, first);
+    for block in blocks {
+        take_in(&mut lanes, block);
     }
     code_of_lanes(table, &lanes)
 }

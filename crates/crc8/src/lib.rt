@@ -58,13 +58,9 @@ fn crc8_by(table: &[u8; 256], start: u8, bytes: &[u8]) -> u8
     requires { Codes table.now }
     ensures { result ≡ crc8_from start bytes.now }
 {
-    let mut crc = start;
-    let mut i: usize = 0;
-    while i < bytes.len() {
-        crc = looked_up(table, crc, bytes[i]);
-        i += 1;
-    }
-    crc
+    bytes
+        .iter()
+        .fold(start, |crc, byte| looked_up(table, crc, *byte))
 }
 
 // The code of a message from a start value on. The table is made once for the whole message: a constant is

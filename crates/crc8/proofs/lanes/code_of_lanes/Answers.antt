@@ -1,14 +1,15 @@
--- `crc8::lanes::code_of_lanes` meets its contract. The loop's invariant `Quartered` says that the first j bytes of each
--- quarter are taken; PART - j decreases.
-use native.Mathlib.Omega.{arith}
-use Rattle.crc8.proofs.Quarters.{all_on, joined}
+-- `crc8::lanes::code_of_lanes` meets its contract: it is the fold over the quarters (proofs/Quarters.antt).
+use borrow.Author.Rules.{rules}
+use mathlib.Core.Path.{◌≡◌}
+use Rattle.std.specs.Prelude.{fold}
+use Rattle.crc8.specs.Crc8.{crc8}
+use Rattle.crc8.proofs.Quarters.{next_register, quarters}
 use Rattle.crc8.proofs.lanes.code_of_lanes.Goals as goal
 
-pub loop-j-preserved : goal.loop-j-preserved
-loop-j-preserved c = all_on c.loop-j.invariant c.requires.1 (omega (arith, c.loop-j-test.true))
-    c.looked_up-a.ensures c.looked_up-b.ensures c.looked_up-c.ensures
-    c.looked_up-d.ensures
-
 pub returns : goal.returns
-returns c = joined c.loop-j.invariant c.requires.1 (omega (arith, c.loop-j-test.false))
-    c.after_zero.ensures c.after_zero-2.ensures c.after_zero-3.ensures
+returns c =
+    let lanes = c.args.lanes.now in
+    let e : fold next_register 0 c.as_chunks.result.0.now ≡ crc8 lanes =
+    rw (c.as_chunks.ensures.front, c.told-lanes) (quarters lanes c.told-lanes)
+    in
+    rw (← e) (search rules)

@@ -1,12 +1,8 @@
--- `crc8::lanes::crc8_by_lanes` meets its contract. The loop's invariant `Folding` says that the lanes stand for the
--- bytes before i, and that whole blocks are left; length - i decreases.
-use Prim.Native.Nat.{◌-◌}
-use lib.ListN.{length}
-use Rattle.crc8.proofs.Folding.{Folding}
+-- `crc8::lanes::crc8_by_lanes` meets its contract: the blocks so far are folded into the lanes.
+use mathlib.Core.Path.{◌≡◌}
+use Rattle.std.specs.Prelude.{fold, take}
+use Rattle.crc8.specs.Inner.Lanes.{taken_in}
 use Rattle.crc8.proofs.lanes.crc8_by_lanes.Given as goal
 
-abbrev pub invariant-loop-i : goal.invariant-loop-i
-invariant-loop-i l = Folding l.start l.bytes l.lanes l.i
-
-abbrev pub decreases-loop-i : goal.decreases-loop-i
-decreases-loop-i l = length l.bytes - l.i
+abbrev pub invariant-loop-block : goal.invariant-loop-block
+invariant-loop-block l = l.lanes ≡ fold taken_in l.initial.lanes (take l.block-index l.blocks)

@@ -1,15 +1,20 @@
--- `crc8::lanes::take_in` meets its contract. The loop's invariant `Taking` says that the block's first j
--- bytes are taken in; LANES - j decreases.
+-- `crc8::lanes::take_in` meets its contract: the block's first j bytes are taken in.
+use borrow.Author.Rules.{rules}
 use native.Mathlib.Omega.{arith}
-use Rattle.crc8.proofs.Folding.{untaken, taken, all_taken}
+use mathlib.Core.Path.{◌≡◌, ◌∙◌, refl}
+use Rattle.crc8.proofs.Folding.{partly, partly_all, taken}
 use Rattle.crc8.proofs.lanes.take_in.Goals as goal
 
 pub loop-j-init : goal.loop-j-init
-loop-j-init c = untaken _ _
+unfolding partly
+loop-j-init c = refl
 
 pub loop-j-preserved : goal.loop-j-preserved
-loop-j-preserved c = taken c.loop-j.invariant c.requires.0 c.requires.1 (omega (arith, c.loop-j-test.true))
-    c.after_four.ensures
+loop-j-preserved c =
+    taken _ _ _ _ _ (omega (arith, c.told-lanes, c.loop-j-test.true)) (omega (arith, c.told-block, c.loop-j-test.true))
+    c.loop-j.invariant (search rules)
 
 pub returns : goal.returns
-returns c = all_taken c.loop-j.invariant c.requires.0 c.requires.1 (omega (arith, c.loop-j-test.false))
+returns c =
+    let end : c.loop-j.j ≡ 64 = omega (arith, c.loop-j-test.false, c.loop-j.auto.j-end) in
+    c.loop-j.invariant ∙ rw end (partly_all 64 _ _ c.told-lanes c.told-block)
