@@ -3,13 +3,12 @@
 use mathlib.Core.List.{List}
 use mathlib.Core.Path.{◌≡◌, refl, ap}
 use Prim.Native.Nat.{ℕ}
+use Rattle.std.specs.Prelude.{Option, Some, None, is_some}
 use Rattle.regs.specs.Program.{Outcome}
 use Rattle.regs.specs.Log.{Leaves, LeavesBuffer, LeavesState, LeavesAll}
 use Rattle.regs.specs.declared.access.Ran.{Ran}
 use Rattle.regs.specs.declared.answers.Reply.{Reply}
-use Rattle.slave.specs.I2cSlave.{is_some, with_pending}
-use Rattle.slave.specs.declared.Pending.{Pending}
-use Rattle.slave.specs.declared.Pending.TheVariants.{None, Byte}
+use Rattle.slave.specs.I2cSlave.{with_pending}
 use Rattle.slave.specs.declared.SlaveState.{SlaveState}
 use Rattle.slave_run.specs.declared.Left.{Left}
 use Rattle.export_reports.specs.Report.{report_of, pending_of, byte_of, numbers_of, HandedOn}
@@ -43,6 +42,6 @@ module _ {o : Outcome SlaveState Reply} {before after : List ℕ} {l : Left} {r 
 pub handed_on : HandedOn
 handed_on s = ap (λ p. with_pending p s) (same s.pending_byte)
   where
-    same : (p : Pending) → pending_of (is_some p) (byte_of p) ≡ p
+    same : (p : Option ℕ) → pending_of (is_some p) (byte_of p) ≡ p
     same None = refl
-    same (Byte b) = refl
+    same (Some b) = refl

@@ -1,5 +1,5 @@
 -- What an exported call returns and leaves, in terms of the outcome of the call that it forwards to.
-use Rattle.std.specs.Prelude.{◌≡◌, ℕ, ◌*◌, Bool, true, false, List, ◌++◌, length, drop, Option, Some, None}
+use Rattle.std.specs.Prelude.{◌≡◌, ℕ, ◌*◌, Bool, true, false, List, ◌++◌, length, drop, Option, Some, None, is_some, unwrap_or}
 use Rattle.regs.specs.Program.{Outcome}
 use Rattle.regs.specs.Log.{encode, reads_in}
 use Rattle.regs.specs.Answers.{number, detail}
@@ -8,9 +8,6 @@ use Rattle.regs.specs.declared.answers.Reply.{Reply}
 use Rattle.regs_causes.specs.declared.Counted.{Counted}
 use Rattle.clock_setting.specs.BusRate.{rate_number, rate_hz, rate_remainder}
 use Rattle.clock_setting.specs.declared.Rated.{Rated}
-use Rattle.slave.specs.I2cSlave.{is_some}
-use Rattle.slave.specs.declared.Pending.{Pending}
-use Rattle.slave.specs.declared.Pending.TheVariants as P
 use Rattle.slave.specs.declared.SlaveState.{SlaveState}
 use Rattle.export_reports.specs.declared.AbortCauses.{AbortCauses}
 use Rattle.export_reports.specs.declared.BusRate.{BusRate}
@@ -54,9 +51,9 @@ pub record ReportsBuffer {S : Type 0} (o : Outcome S Reply) (before after b : Li
 -- ---- the slave's state without an enum
 
 -- coming in, the byte counts only where one is kept
-abbrev pub pending_of : Bool → ℕ → Pending
-pending_of false b = P.None
-pending_of true b = P.Byte b
+abbrev pub pending_of : Bool → ℕ → Option ℕ
+pending_of false b = None
+pending_of true b = Some b
 
 abbrev pub state_of : Slave → SlaveState
 state_of s = record {
@@ -66,9 +63,8 @@ state_of s = record {
 }
 
 -- going out, the place of a byte that is not kept is 0
-abbrev pub byte_of : Pending → ℕ
-byte_of P.None = 0
-byte_of (P.Byte b) = b
+abbrev pub byte_of : Option ℕ → ℕ
+byte_of p = unwrap_or p 0
 
 abbrev pub numbers_of : SlaveState → Slave
 numbers_of s = record {

@@ -10,7 +10,7 @@ use clock_setting::Rated;
 use regs::access::Ran;
 use regs::answers::{Answer, Reply};
 use regs_causes::Counted;
-use slave::{Pending, SlaveState};
+use slave::SlaveState;
 
 // What a call answers, the entries that it left in the log and the readings that it used.
 #[repr(C)]
@@ -104,14 +104,10 @@ pub fn told_causes(set: Option<Counted>) -> AbortCauses
     }
 }
 
-fn pending(has: bool, byte: u8) -> Pending
+fn pending(has: bool, byte: u8) -> Option<u8>
     ensures { result ≡ pending_of has byte }
 {
-    if has {
-        Pending::Byte(byte)
-    } else {
-        Pending::None
-    }
+    has.then_some(byte)
 }
 
 pub fn state(s: Slave) -> SlaveState
@@ -128,19 +124,10 @@ pub fn state(s: Slave) -> SlaveState
 pub fn numbers(s: SlaveState) -> Slave
     ensures { result ≡ numbers_of s }
 {
-    let p = s.pending_byte;
-    match p {
-        Pending::Byte(b) => Slave {
-            has_pending: true,
-            pending_byte: b,
-            address: s.address,
-            general_call: s.general_call,
-        },
-        Pending::None => Slave {
-            has_pending: false,
-            pending_byte: 0,
-            address: s.address,
-            general_call: s.general_call,
-        },
+    Slave {
+        has_pending: s.pending_byte.is_some(),
+        pending_byte: s.pending_byte.unwrap_or(0),
+        address: s.address,
+        general_call: s.general_call,
     }
 }

@@ -10,7 +10,7 @@ ghost use Rattle.slave.specs.I2cSlave.{respond_and_fill_call};
 ghost use Rattle.slave_run.specs.Requests.{left_by};
 
 use regs::access::Ran;
-pub use slave::{Pending, SlaveState};
+pub use slave::SlaveState;
 pub use slave_run::{Left, Request};
 
 // Any call: the state is lent, and updated there.

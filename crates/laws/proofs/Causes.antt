@@ -9,6 +9,7 @@ use mathlib.Core.Path.{◌≡◌, refl}
 use lib.Dec.{eqb, ltb, T}
 use lib.ListN.{length}
 use borrow.Author.Tests.{ne_eqb}
+use Rattle.std.specs.Prelude.{is_some}
 use Rattle.regs.proofs.Tests.{by_test}
 use Rattle.regs.specs.Answers.{number}
 use Rattle.regs.specs.Left.{no_access, Untouched}
@@ -30,7 +31,7 @@ use Rattle.master.specs.Transfer.{blocking_transaction, read_async, write_async,
 use Rattle.master.specs.Coded.{with_code, ends_in_read, coder, each_coded, longer_transfer, coded}
 use Rattle.master.specs.Calls as Master
 use Rattle.master.specs.Calls.{Lent, reads_into, writes_from, writes_then_reads, transacts}
-use Rattle.slave.specs.I2cSlave.{answer, is_some, reset, reset_call, listen, listen_call, respond_to_read, respond_to_read_call}
+use Rattle.slave.specs.I2cSlave.{answer, reset, reset_call, listen, listen_call, respond_to_read, respond_to_read_call}
 use Rattle.slave.specs.I2cSlave.{respond_till_stop, respond_till_stop_call, respond_and_fill, respond_and_fill_call}
 use Rattle.slave.specs.Calls as Slave
 use Rattle.slave.specs.Calls.{resets, listens, responds, fills, responds_and_fills}

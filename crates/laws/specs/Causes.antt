@@ -1,12 +1,11 @@
 -- The table of refusals (docs/MANUAL.md, "The numbers"), its column "No.", for the rows that say "no access": why a call
 -- is turned down before its first access, in the order in which these causes count.
-use Rattle.std.specs.Prelude.{ℕ, zero, suc, Bool, true, false, not, ◌&&◌, List, [], ◌∷◌, ◌≡◌, eqb, ltb, length, if◌then◌else◌}
+use Rattle.std.specs.Prelude.{ℕ, zero, suc, Bool, true, false, not, ◌&&◌, List, [], ◌∷◌, ◌≡◌, eqb, ltb, length, if◌then◌else◌, is_some}
 use Rattle.regs.specs.Answers.{number}
 use Rattle.regs.specs.Left.{no_access}
 use Rattle.regs.specs.declared.answers.Reply.{Reply}
 use Rattle.master.specs.Operations.{Operation, Mode, blocking, async}
 use Rattle.master.specs.Calls.{Lent, within_limits, operations_in}
-use Rattle.slave.specs.I2cSlave.{is_some}
 use Rattle.slave.specs.Calls as Slave
 use Rattle.slave.specs.Calls.{resets, listens, responds, fills, responds_and_fills}
 use Rattle.slave.specs.declared.SlaveState.{SlaveState}

@@ -1,7 +1,6 @@
 -- Frames in order: what the replay prints of an input. This is the statement.
-use Rattle.std.specs.Prelude.{ℕ, ◌+◌, ◌%◌, Bool, true, false, List, [], ◌∷◌, ◌++◌, eqb, ltb, length, if◌then◌else◌}
+use Rattle.std.specs.Prelude.{ℕ, ◌+◌, ◌%◌, Bool, true, false, List, [], ◌∷◌, ◌++◌, eqb, ltb, length, if◌then◌else◌, None}
 use Rattle.master.specs.Operations.{Operation, writes, reads}
-use Rattle.slave.specs.declared.Pending.TheVariants.{None}
 use Rattle.slave.specs.declared.SlaveState.{SlaveState}
 use Rattle.text_hex.specs.Text.{lines}
 use Rattle.text_hex.specs.Print.{answer_text}

@@ -8,7 +8,7 @@ ghost use Rattle.std.specs.Prelude.{◌≡◌};
 ghost use Rattle.replay_session.specs.Session.{fresh};
 
 use replay_session::Open;
-use slave::{Pending, SlaveState};
+use slave::SlaveState;
 
 // Where the reader is: past a malformed line; in a line of which n bytes are kept; or
 // in a line of bytes that is longer than what is kept, with a digit waiting or not.
@@ -42,7 +42,7 @@ pub fn fresh_slave() -> SlaveState
     ensures { result ≡ fresh }
 {
     SlaveState {
-        pending_byte: Pending::None,
+        pending_byte: None,
         address: 0,
         general_call: false,
     }

@@ -4,6 +4,7 @@ use Prim.Native.Nat.{ℕ, zero, suc, ◌+◌, ◌-◌}
 use mathlib.Core.Bool.{Bool, false}
 use mathlib.Core.List.{List, [], ◌∷◌}
 use lib.ListN.{length}
+use Rattle.std.specs.Prelude.{Option, Some, None}
 use Rattle.regs.specs.Registers.{INTR_MASK}
 use Rattle.regs.specs.Legality.{LegalCall, DisabledCall, NoTxNotEmpty}
 use Rattle.regs.specs.Program.{put, Result, ok, err}
@@ -22,8 +23,6 @@ use Rattle.slave.specs.I2cSlave.{send_chunk, respond_chunk, respond_abort, respo
 use Rattle.slave.specs.I2cSlave.{respond_to_read, till_stop, respond_till_stop, filled, and_fill, respond_and_fill, answer}
 use Rattle.slave.specs.I2cSlave.{respond_to_read_call, respond_till_stop_call, respond_and_fill_call}
 use Rattle.slave.specs.Calls.{Call, resets, listens, responds, fills, responds_and_fills, program}
-use Rattle.slave.specs.declared.Pending.{Pending}
-use Rattle.slave.specs.declared.Pending.TheVariants.{None, Byte}
 
 reset_legal : (address : ℕ) (g : Bool) → LegalP (reset address g)
 unfolding reset
@@ -43,9 +42,9 @@ drain_places_legal (suc places) offset n k h =
 drain_fifo_legal : (length len : ℕ) → LegalP (drain_fifo length len)
 drain_fifo_legal length len n k h = asks_legal (λ me. keeps_legal (go me.pending_byte))
   where
-    go : (p : Pending) → LegalB false (drain_pending p len n (λ offset. drain_places (length - offset) offset n k))
+    go : (p : Option ℕ) → LegalB false (drain_pending p len n (λ offset. drain_places (length - offset) offset n k))
     go None = drain_places_legal (length - len) len n k h
-    go (Byte b) = stores_legal (drain_places_legal (length - (len + 1)) (len + 1) n k h)
+    go (Some b) = stores_legal (drain_places_legal (length - (len + 1)) (len + 1) n k h)
 
 listen_poll_legal : (length len : ℕ) → LegalWith (InPoll ProperResult) (listen_poll length len)
 listen_poll_legal length len = search (legal, drain_fifo_legal) depth 30

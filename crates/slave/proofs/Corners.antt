@@ -8,7 +8,7 @@ use mathlib.Core.Path.{◌≡◌, refl}
 use lib.Dec.{ltb}
 use lib.ListN.{replicate}
 use Rattle.regs.specs.Program.{Outcome, outcome, behaviour, Program, rounds}
-use Rattle.std.specs.Prelude.{if◌then◌else◌}
+use Rattle.std.specs.Prelude.{if◌then◌else◌, Option, Some, None}
 use Rattle.regs.specs.Answers.{abort_number}
 use Rattle.regs.specs.Fields.{set_field, no_acknowledge, arb_lost, tx_flush_cnt}
 use Rattle.regs.specs.declared.access.Entry.{Entry}
@@ -25,18 +25,16 @@ use Rattle.regs.specs.declared.answers.Reply.TheVariants.{Answered, OutOfReading
 use Rattle.slave.specs.I2cSlave.{abort_reason, drain_places, listen, listen_call, reset, reset_call, send_chunk}
 use Rattle.slave.specs.I2cSlave.{respond_to_read, respond_to_read_call, respond_till_stop}
 use Rattle.slave.specs.I2cSlave.{respond_till_stop_call, respond_and_fill, respond_and_fill_call}
-use Rattle.slave.specs.declared.Pending.{Pending}
-use Rattle.slave.specs.declared.Pending.TheVariants.{None, Byte}
 use Rattle.slave.specs.declared.SlaveState.{SlaveState}
 
-abbrev me : Pending → SlaveState
+abbrev me : Option ℕ → SlaveState
 me p = record { pending_byte = p; address = 0x55; general_call = true }
 
 -- a call on so much room and these readings, from a buffer and a pending byte
-abbrev run : Program SlaveState Answer Answer → ℕ → List ℕ → List ℕ → Pending → Outcome SlaveState Reply
+abbrev run : Program SlaveState Answer Answer → ℕ → List ℕ → List ℕ → Option ℕ → Outcome SlaveState Reply
 run p room readings buffer pending = outcome Answered LogFull OutOfReadings (behaviour p room) room readings buffer (me pending)
 
-abbrev leaves : Answer → List Entry → List ℕ → Pending → Outcome SlaveState Reply
+abbrev leaves : Answer → List Entry → List ℕ → Option ℕ → Outcome SlaveState Reply
 leaves a log buffer pending = record { answer = Answered a; log = log; buffer = buffer; state = me pending }
 
 -- ---- reset
@@ -52,16 +50,16 @@ unfolding outcome reset reset_call
 address_1024 = refl
 
 -- the settings change with the block reset mark: with no room for it they stay, with room for it alone they are new
-before_mark : (run (reset_call 0x33 false) 0 [] [] (Byte 7)).state ≡ me (Byte 7)
+before_mark : (run (reset_call 0x33 false) 0 [] [] (Some 7)).state ≡ me (Some 7)
 unfolding outcome reset reset_call
 before_mark = refl
 
-with_mark : run (reset_call 0x33 false) 1 [] [] (Byte 7)
+with_mark : run (reset_call 0x33 false) 1 [] [] (Some 7)
     ≡ record {
       answer = LogFull;
       log = E.Marked 1 ∷ [];
       buffer = [];
-      state = record { pending_byte = Byte 7; address = 0x33; general_call = false };
+      state = record { pending_byte = Some 7; address = 0x33; general_call = false };
     }
 unfolding outcome reset reset_call
 with_mark = refl
@@ -79,17 +77,17 @@ unfolding outcome listen_call listen drain_places rounds
 fits_general_call = refl
 
 -- 17: a pending byte and an empty buffer, no access
-no_place : run (listen_call 0) 20 (0 ∷ 0 ∷ []) [] (Byte 7) ≡ leaves (Refused NoPlaceForPending) [] [] (Byte 7)
+no_place : run (listen_call 0) 20 (0 ∷ 0 ∷ []) [] (Some 7) ≡ leaves (Refused NoPlaceForPending) [] [] (Some 7)
 unfolding outcome listen_call
 no_place = refl
 
 -- 20 before it: no access
-too_long : run (listen_call 4097) 20 (0 ∷ 0 ∷ []) [] (Byte 7) ≡ leaves (Refused OverLimits) [] [] (Byte 7)
+too_long : run (listen_call 4097) 20 (0 ∷ 0 ∷ []) [] (Some 7) ≡ leaves (Refused OverLimits) [] [] (Some 7)
 unfolding outcome listen_call
 too_long = refl
 
 -- a pending byte comes first, though RXFLR is 0, and is stored with that reading: so it is where the log is full right after it
-pending_first : run (listen_call 3) 3 (0 ∷ 0 ∷ []) (0 ∷ 0 ∷ 0 ∷ []) (Byte 7)
+pending_first : run (listen_call 3) 3 (0 ∷ 0 ∷ []) (0 ∷ 0 ∷ 0 ∷ []) (Some 7)
     ≡ record { answer = LogFull; log = E.Write 0x38 0 ∷ E.Read 0x34 0 ∷ E.Read 0x78 0 ∷ []; buffer = 7 ∷ 0 ∷ 0 ∷ []; state = me None }
 unfolding outcome listen_call listen drain_places rounds
 pending_first = refl

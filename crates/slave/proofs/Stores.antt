@@ -8,6 +8,7 @@ use mathlib.Core.Path.{◌≡◌, refl, sym}
 use lib.Dec.{eqb, ltb, T}
 use lib.ListN.{length}
 use borrow.Author.Tests.{eqb-true, eqb-false, ltb-true}
+use Rattle.std.specs.Prelude.{Option, Some, None, is_some, option_to_list}
 use Rattle.regs.proofs.Tests.{both_of, by_test}
 use Rattle.regs.proofs.Stores.{Stores, ends_stores, reads_stores, data_stores, writes_stores, marks_stores, store_stores}
 use Rattle.regs.proofs.Stores.{asks_stores, keeps_stores, cut_stores, Late, Opens, refuses, begins, asks_opens, Whole, whole}
@@ -21,13 +22,11 @@ use Rattle.regs.specs.declared.answers.Answer.TheVariants.{Heard, Refused}
 use Rattle.regs.specs.declared.answers.Refusal.TheVariants.{NoPlaceForPending}
 use Rattle.regs.specs.declared.answers.Reply.{Reply}
 use Rattle.regs.specs.declared.answers.Reply.TheVariants.{Answered}
-use Rattle.slave.specs.I2cSlave.{Listened, answer, is_some, with_pending, drain_places, listen_drain}
+use Rattle.slave.specs.I2cSlave.{Listened, answer, with_pending, drain_places, listen_drain}
 use Rattle.slave.specs.I2cSlave.{listen_command, listen_poll, listen_mask, listen, listen_call}
 use Rattle.slave.specs.Calls.{listens, left_by_call}
-use Rattle.slave.specs.Counts.{pending_bytes, kept, Tells, general_call, read, write_read, write, partial_write}
+use Rattle.slave.specs.Counts.{kept, Tells, general_call, read, write_read, write, partial_write}
 use Rattle.slave.specs.Counts.{partial_general_call, no_place, over_limits, out_of_readings, log_full, ListenConserves}
-use Rattle.slave.specs.declared.Pending.{Pending}
-use Rattle.slave.specs.declared.Pending.TheVariants.{None, Byte}
 use Rattle.slave.specs.declared.SlaveState.{SlaveState}
 use Rattle.slave.proofs.Basics.{state, or_true, none_pending}
 
@@ -160,21 +159,21 @@ module _ (L : ℕ) where
       (λ q. rw q (receiving w (λ v.
       by_test (not (eqb offset 0) && first_data_byte v)
       (λ q. rw q (asking (keeping
-      (writing (settles stat offset (with_pending (Byte (dat v)) me) t n
+      (writing (settles stat offset (with_pending (Some (dat v)) me) t n
       (record { most = omega arith; place = λ _. omega arith }) back)))))
       (λ q. rw q (storing (omega arith) (drains places stat (offset + 1) me t n none (omega arith) back))))))
       (λ q. rw (q, ← w) (writing
       (settles stat offset me t n (record { most = omega arith; place = none_pending none }) back))))
 
-  levels : (p : Pending) (address : ℕ) (g : Bool) (stat len v : ℕ) (t : ℕ → Behaviour SlaveState Answer) (n : ℕ)
+  levels : (p : Option ℕ) (address : ℕ) (g : Bool) (stat len v : ℕ) (t : ℕ → Behaviour SlaveState Answer) (n : ℕ)
       → At len (state p address g)
       → Back t
-      → Keeps len (pending_bytes p) (state p address g) (listen_drain L len v n (λ len. listen_command L stat len n (after n t)))
+      → Keeps len (option_to_list p) (state p address g) (listen_drain L len v n (λ len. listen_command L stat len n (after n t)))
   levels None address g stat len v t n a back =
       asking (by_test (ltb 0 (level v))
       (λ q. rw q (asking (keeping (drains _ stat len _ t n refl (omega (arith, a.most)) back))))
       (λ q. rw q (settles stat len _ t n a back)))
-  levels (Byte c) address g stat len v t n a back =
+  levels (Some c) address g stat len v t n a back =
       let l : len < L = a.place refl in
       asking (rw (or_true (ltb 0 (level v)))
       (asking (keeping (storing l (drains _ stat (len + 1) _ t n refl (omega arith) back)))))
@@ -206,12 +205,12 @@ calls me L n =
     (λ q. rw q (refuses over_limits))
     (λ q. rw q (asks_opens (go me.pending_byte me.address me.general_call)))
   where
-    go : (p : Pending) (address : ℕ) (g : Bool) → Opens kept (Tells L) L (state p address g)
+    go : (p : Option ℕ) (address : ℕ) (g : Bool) → Opens kept (Tells L) L (state p address g)
         ((when (is_some p && eqb L 0) (exit (Refused NoPlaceForPending))
         >> (listen L >>= (λ r. return (answer Heard r))))
         n ends)
     go None address g = starts L _ n (record { most = omega arith; place = λ e. none_pending refl e })
-    go (Byte c) address g =
+    go (Some c) address g =
         by_test (eqb L 0)
         (λ q. rw q (refuses no_place))
         (λ q. rw q (starts L _ n

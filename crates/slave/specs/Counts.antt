@@ -1,5 +1,5 @@
 -- What holds of every slave call, over the log, the buffer and the state that it leaves: lengths and counts are true.
-use Rattle.std.specs.Prelude.{ℕ, ◌<◌, List, [], ◌∷◌, ◌++◌, ◌≡◌, Bool, true, false, ◌||◌, ◌⊎◌, ◌≢◌, eqb, length, take, drop, replicate, if◌then◌else◌}
+use Rattle.std.specs.Prelude.{ℕ, ◌<◌, List, [], ◌∷◌, ◌++◌, ◌≡◌, Bool, true, false, ◌||◌, ◌⊎◌, ◌≢◌, eqb, length, take, drop, replicate, if◌then◌else◌, option_to_list}
 use Rattle.regs.specs.Registers.{DATA_CMD, TX_ABRT_SOURCE, CLR_RX_DONE, CLR_INTR}
 use Rattle.regs.specs.Fields.{tx_flush_cnt}
 use Rattle.regs.specs.Left.{Stored}
@@ -18,19 +18,13 @@ use Rattle.regs.specs.declared.answers.Reply.TheVariants.{Answered, OutOfReading
 use Rattle.slave.specs.I2cSlave.{FIFO_SIZE, abort_reason, respond_to_read_call}
 use Rattle.slave.specs.I2cSlave.{respond_till_stop_call, respond_and_fill_call}
 use Rattle.slave.specs.Calls.{listens, left_by_call}
-use Rattle.slave.specs.declared.Pending.{Pending}
-use Rattle.slave.specs.declared.Pending.TheVariants.{None, Byte}
 use Rattle.slave.specs.declared.SlaveState.{SlaveState}
 
 -- ---- listen
 
-abbrev pub pending_bytes : Pending → List ℕ
-pending_bytes None = []
-pending_bytes (Byte b) = b ∷ []
-
 -- the byte that the driver keeps, if any
 abbrev pub kept : SlaveState → List ℕ
-kept me = pending_bytes me.pending_byte
+kept me = option_to_list me.pending_byte
 
 -- The answers of `listen`, and the number of bytes stored with each in a buffer of so many. Read counts none, though
 -- some may be stored (docs/DIFFERENCES.md). 18 and 19 count none either: `Stored` below says how many it is then.

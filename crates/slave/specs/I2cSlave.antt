@@ -1,5 +1,5 @@
 -- src/i2c_slave.rs, function by function, and the calls with the refusals that are added (docs/MANUAL.md, "The numbers").
-use Rattle.std.specs.Prelude.{ℕ, zero, suc, ◌+◌, ◌-◌, List, [], ◌∷◌, Bool, true, false, not, ◌&&◌, ◌||◌, eqb, ltb, length, take, drop, replicate, if◌then◌else◌}
+use Rattle.std.specs.Prelude.{ℕ, zero, suc, ◌+◌, ◌-◌, List, [], ◌∷◌, Bool, true, false, not, ◌&&◌, ◌||◌, eqb, ltb, length, take, drop, replicate, if◌then◌else◌, Option, Some, None, is_some}
 use Rattle.regs.specs.Registers.{CON, SAR, DATA_CMD, INTR_MASK, RAW_INTR_STAT, RX_TL, TX_TL, CLR_INTR, CLR_RD_REQ}
 use Rattle.regs.specs.Registers.{CLR_TX_ABRT, CLR_RX_DONE, CLR_STOP_DET, CLR_GEN_CALL, ENABLE, STATUS, RXFLR}
 use Rattle.regs.specs.Registers.{TX_ABRT_SOURCE, ACK_GENERAL_CALL, CLR_RESTART_DET}
@@ -22,8 +22,6 @@ use Rattle.regs.specs.declared.answers.Refusal.TheVariants.{PartialGeneralCall, 
 use Rattle.regs.specs.declared.answers.Refusal.TheVariants.{NoPlaceForPending, OverLimits}
 use Rattle.regs.specs.declared.answers.Answer.{Answer}
 use Rattle.regs.specs.declared.answers.Answer.TheVariants.{Accepted, Heard, Responded, Refused}
-use Rattle.slave.specs.declared.Pending.{Pending}
-use Rattle.slave.specs.declared.Pending.TheVariants.{None, Byte}
 use Rattle.slave.specs.declared.SlaveState.{SlaveState}
 
 -- a part of the driver, with the state `self`
@@ -35,18 +33,14 @@ FIFO_SIZE = 16
 
 -- ---- self.pending_byte, self.config
 
-abbrev pub with_pending : Pending → SlaveState → SlaveState
+abbrev pub with_pending : Option ℕ → SlaveState → SlaveState
 with_pending p me = record { pending_byte = p; address = me.address; general_call = me.general_call }
 
 abbrev pub with_config : ℕ → Bool → SlaveState → SlaveState
 with_config address general_call me = record { pending_byte = me.pending_byte; address = address; general_call = general_call }
 
-abbrev pub is_some : Pending → Bool
-is_some None = false
-is_some (Byte b) = true
-
 -- self.pending_byte.take()
-abbrev pub take_pending_byte : Driver Pending
+abbrev pub take_pending_byte : Driver (Option ℕ)
 take_pending_byte = do
   me ← ask
   keep (with_pending None me)
@@ -56,7 +50,7 @@ take_pending_byte = do
 abbrev pub set_pending_byte : ℕ → Driver (Unit {0})
 set_pending_byte b = do
   me ← ask
-  keep (with_pending (Byte b) me)
+  keep (with_pending (Some b) me)
 
 -- ---- fn reset(&mut self)
 
@@ -88,9 +82,9 @@ reset address general_call = do
 -- ---- fn drain_fifo(&mut self, buffer: &mut [u8], offset: &mut usize)
 
 -- if let Some(pending) = .. { buffer[*offset] = pending; *offset += 1; }
-abbrev pub drain_pending : Pending → ℕ → Driver ℕ
+abbrev pub drain_pending : Option ℕ → ℕ → Driver ℕ
 drain_pending None offset = return offset
-drain_pending (Byte b) offset = do
+drain_pending (Some b) offset = do
   store offset b
   return (offset + 1)
 

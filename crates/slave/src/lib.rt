@@ -2,17 +2,10 @@
 // it, and in proofs/ is what holds of that text, whatever code does it.
 #![tactic(auto)]
 
-// The byte that was received for the next message, if any: the Rust's `Option<u8>`.
-#[derive(Clone, Copy)]
-pub enum Pending {
-    None,
-    Byte(u8),
-}
-
-// What lasts from call to call.
+// What lasts from call to call: the byte that was received for the next message, if any, and the settings.
 #[derive(Clone, Copy)]
 pub struct SlaveState {
-    pub pending_byte: Pending,
+    pub pending_byte: Option<u8>,
     pub address: u16,
     pub general_call: bool,
 }

@@ -3,7 +3,7 @@ use Prim.Native.Nat.{ℕ, ◌/◌, ◌<◌, ◌≤◌, ◌^◌}
 use mathlib.Core.List.{List}
 use mathlib.Core.Path.{◌≡◌, sym, ap, ◌∙◌}
 use lib.ListN.{length}
-use Rattle.slave.specs.declared.Pending.TheVariants.{None}
+use Rattle.std.specs.Prelude.{None}
 use Rattle.slave_listen.specs.declared.ListenPoint.TheVariants.{Status, RawIntrStat}
 use Rattle.slave_respond.specs.Inner.Machine.{response, count_of}
 use Rattle.slave_respond.specs.declared.Job.{Job}

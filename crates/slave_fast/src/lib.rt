@@ -6,7 +6,6 @@ ghost use Rattle.slave_fast.specs.Inner.GoesAhead.{GoesAhead, SendsBytes};
 ghost use Rattle.slave_respond.specs.Inner.Machine.{response, count_of};
 ghost use Rattle.slave_fast_bytes.specs.Inner.Bursts.{ForAny};
 
-use slave::Pending;
 use slave_listen::ListenPoint;
 use slave_respond::{Job, RespondPoint, Response};
 use slave_steps::{Point, Slave};
@@ -32,12 +31,12 @@ fn came(point: Point, used: usize, entries: usize) -> Ahead
 }
 
 // Whether no byte is pending.
-fn is_none(p: Pending) -> bool
-    ensures { result ≡ true → p ≡ Pending.None }
+fn is_none(p: Option<u8>) -> bool
+    ensures { result ≡ true → p ≡ None }
 {
     match p {
-        Pending::None => true,
-        Pending::Byte(_) => false,
+        None => true,
+        Some(_) => false,
     }
 }
 

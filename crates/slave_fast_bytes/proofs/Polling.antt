@@ -1,5 +1,4 @@
 -- `listen`, poll after poll.
-use Rattle.std.specs.Prelude as O
 use Prim.Native.Nat.{ℕ, ◌+◌, ◌/◌, ◌<◌, ◌≤◌, ◌^◌}
 use native.Mathlib.Omega.{arith}
 use mathlib.Core.Bool.{true, false, not, ◌&&◌, and-false}
@@ -8,13 +7,13 @@ use mathlib.Core.Path.{◌≡◌, refl, ◌∙◌}
 use lib.Dec.{eqb}
 use lib.ListN.{length, get_or}
 use borrow.Author.Tests.{lt-ltb, ne_eqb, eqb-false, not-true}
+use Rattle.std.specs.Prelude.{None}
 use Rattle.regs.proofs.Tests.{both_of}
 use Rattle.regs.specs.Registers.{STATUS, RX_TL, INTR_MASK, RAW_INTR_STAT, RXFLR}
 use Rattle.regs.specs.Program.{PENDING}
 use Rattle.regs.specs.Fields.{rfne, rd_req, stop_det, level}
 use Rattle.regs.specs.Inner.Machine.{entered}
 use Rattle.slave.specs.declared.SlaveState.{SlaveState}
-use Rattle.slave.specs.declared.Pending.TheVariants.{None}
 use Rattle.slave_listen.specs.declared.ListenPoint.TheVariants.{Status, Watermark, IntrMask, RawIntrStat, Rxflr}
 use Rattle.slave_steps.specs.Inner.Machine.{machine, slave}
 use Rattle.slave_steps.specs.declared.Slave.{Slave}
@@ -66,7 +65,7 @@ module _ (bytes : List ℕ) {readings : List ℕ} (me : SlaveState) (none : me.p
       ≡ slave me places (Listening (Status (get_or readings u 0) i)) =
       rw (none, lt-ltb 0 (level (get_or readings (u + 1) 0)) filled, lt-ltb i places more) in
       let w : M.store (slave me places (Listening (Rxflr (get_or readings u 0) i))) (get_or readings (u + 1) 0)
-      ≡ O.None = rw (none, lt-ltb 0 (level (get_or readings (u + 1) 0)) filled) in
+      ≡ None = rw (none, lt-ltb 0 (level (get_or readings (u + 1) 0)) filled) in
       rw w at (did_read g₁ refl (omega (arith, room)) (omega (arith, left)) a q v)
 
 -- a poll that leads straight on

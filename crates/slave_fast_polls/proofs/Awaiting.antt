@@ -1,5 +1,4 @@
 -- Polls of `listen` that find nothing.
-use Rattle.std.specs.Prelude as O
 use Prim.Native.Nat.{ℕ, ◌+◌, ◌/◌, ◌-◌, ◌<◌, ◌≤◌, ◌^◌}
 use native.Mathlib.Omega.{arith}
 use mathlib.Core.Bool.{true, not, ◌&&◌, and-false}
@@ -8,13 +7,13 @@ use mathlib.Core.Path.{◌≡◌, refl}
 use lib.Dec.{eqb}
 use lib.ListN.{length, get_or, length-set}
 use borrow.Author.Tests.{le-ltb, ne_eqb, eqb-true, not-true}
+use Rattle.std.specs.Prelude.{None}
 use Rattle.regs.proofs.Tests.{both_of}
 use Rattle.regs.specs.Program.{PENDING}
 use Rattle.regs.specs.Registers.{RAW_INTR_STAT, RXFLR, INTR_MASK}
 use Rattle.regs.specs.Fields.{rd_req, stop_det, level}
 use Rattle.regs.specs.Inner.Machine.{entered}
 use Rattle.slave.specs.declared.SlaveState.{SlaveState}
-use Rattle.slave.specs.declared.Pending.TheVariants.{None}
 use Rattle.slave_listen.specs.declared.ListenPoint.TheVariants.{RawIntrStat, Rxflr, IntrMask}
 use Rattle.slave_steps.specs.Inner.Machine.{machine, slave}
 use Rattle.slave_steps.specs.declared.Slave.{Slave}
@@ -55,7 +54,7 @@ module _ (bytes : List ℕ) {readings : List ℕ} (me : SlaveState) (none : me.p
         and-false,
         and-false,
       ) in
-      let w₂ : M.store (slave me places (Listening (Rxflr stat i))) filled ≡ O.None =
+      let w₂ : M.store (slave me places (Listening (Rxflr stat i))) filled ≡ None =
       rw (none, le-ltb 0 (level filled) (omega (arith, empty))) in
       let g₂ = rw w₂ at (did_read g₁ refl (omega (arith, room)) (omega (arith, left)) a₂ q₂ v₂) in
       let q₃ : e + 3 ≡ e + 2 + 1 = omega arith in

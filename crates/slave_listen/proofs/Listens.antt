@@ -7,6 +7,7 @@ use mathlib.Core.Path.{◌≡◌, refl}
 use lib.Dec.{eqb, ltb}
 use lib.ListN.{set}
 use borrow.Author.Tests.{lt-ltb, le-ltb}
+use Rattle.std.specs.Prelude.{Option, Some, None, is_some}
 use Rattle.regs.proofs.Tests.{by_test}
 use Rattle.regs.specs.Registers.{RX_TL, INTR_MASK}
 use Rattle.regs.specs.Fields.{set_field, dat, rd_req, stop_det, gen_call, restart_det, rfne, level}
@@ -16,12 +17,10 @@ use Rattle.regs.specs.declared.answers.Answer.{Answer}
 use Rattle.regs.specs.declared.answers.Answer.TheVariants.{Heard}
 use Rattle.regs.specs.declared.access.Next.TheVariants as N
 use Rattle.regs.proofs.Refine.{Agree, ends_agree, reads_agree, writes_agree, marks_agree, stores_agree, asks_agree, keeps_agree, loop_agree}
-use Rattle.slave.specs.I2cSlave.{answer, is_some, with_pending, drain_places, listen_drain, listen_command}
+use Rattle.slave.specs.I2cSlave.{answer, with_pending, drain_places, listen_drain, listen_command}
 use Rattle.slave.specs.I2cSlave.{listen_poll, listen_mask, Listened, listen}
 use Rattle.slave_listen.specs.Inner.Machine.{Listener, listener, machine, settled, drain_from, after_level, is_next}
 use Rattle.slave.specs.declared.SlaveState.{SlaveState}
-use Rattle.slave.specs.declared.Pending.{Pending}
-use Rattle.slave.specs.declared.Pending.TheVariants.{None, Byte}
 use Rattle.slave_listen.specs.declared.ListenPoint.TheVariants as L
 use Rattle.slave.proofs.Basics.{state, or_true, none_pending}
 
@@ -99,7 +98,7 @@ module _ (length : ℕ) where
       (λ q. rw q (reads_agree M m₁ refl (λ m₂ l₂ w.
       by_test (is_next offset w)
       (λ q. rw q (asks_agree M m₂
-      (keeps_agree M m₂ (sets_threshold m₂ stat offset (with_pending (Byte (dat w)) me) b t n (λ _. omega arith)
+      (keeps_agree M m₂ (sets_threshold m₂ stat offset (with_pending (Some (dat w)) me) b t n (λ _. omega arith)
       (λ m₃ l₃. back m₃ (omega arith))))))
       (λ q. rw (q, more) (stores_agree M m₂
       (drains places m₂ stat (offset + 1) me (set b offset (dat w)) t n none (omega arith)
@@ -107,7 +106,7 @@ module _ (length : ℕ) where
       (λ q. rw q (sets_threshold m₁ stat offset me b t n (none_pending none) (λ m₂ l₂. back m₂ (omega arith))))))
 
   -- after the level is read, with a byte pending and with none
-  levels : (p : Pending) (address : ℕ) (g : Bool) (m stat len v : ℕ) (b : List ℕ)
+  levels : (p : Option ℕ) (address : ℕ) (g : Bool) (m stat len v : ℕ) (b : List ℕ)
       (t : ℕ → Behaviour SlaveState Answer) (n : ℕ)
       → (is_some p ≡ true → len < length)
       → Back m t
@@ -119,7 +118,7 @@ module _ (length : ℕ) where
       asks_agree M m (by_test (ltb 0 (level v))
       (λ q. rw q (asks_agree M m (keeps_agree M m (drains (length - len) m stat len _ b t n refl refl back))))
       (λ q. rw q (settles m stat len _ b t n holds back)))
-  levels (Byte c) address g m stat len v b t n holds back =
+  levels (Some c) address g m stat len v b t n holds back =
       asks_agree M m (rw (or_true (ltb 0 (level v)), lt-ltb len length (holds refl))
       (asks_agree M m (keeps_agree M m
       (stores_agree M m (drains (length - (len + 1)) m stat (len + 1) _ (set b len c) t n refl refl back)))))

@@ -6,7 +6,6 @@ ghost use Rattle.slave_listen.specs.Inner.Machine.{after_data};
 use super::{ListenPoint, Listened};
 use regs::access::Store;
 use regs::fields;
-use slave::Pending;
 
 // The drain at an offset: a place, or the end of the buffer.
 fn drain_from(stat: u32, offset: u16, length: u16) -> ListenPoint
@@ -27,23 +26,23 @@ fn wide(offset: u16) -> usize
 
 // The pending byte is stored first. That it has a place is
 // proved of the driver; the test keeps the sum in range.
-pub fn after_level(stat: u32, len: u16, pending: Pending, v: u32, length: u16) -> Listened
+pub fn after_level(stat: u32, len: u16, pending: Option<u8>, v: u32, length: u16) -> Listened
     ensures { result ≡ after_level length stat len pending v }
 {
     match pending {
-        Pending::None => if 0 < fields::level_of(v) {
-            super::stay(Pending::None, drain_from(stat, len, length))
+        None => if 0 < fields::level_of(v) {
+            super::stay(None, drain_from(stat, len, length))
         } else {
-            super::stay(Pending::None, super::settle(stat, len, length))
+            super::stay(None, super::settle(stat, len, length))
         },
-        Pending::Byte(b) => if len < length {
+        Some(b) => if len < length {
             Listened {
                 point: drain_from(stat, len + 1, length),
-                pending: Pending::None,
+                pending: None,
                 store: Some((wide(len), b)),
             }
         } else {
-            super::stay(Pending::None, drain_from(stat, len, length))
+            super::stay(None, drain_from(stat, len, length))
         },
     }
 }
@@ -65,12 +64,12 @@ fn is_next(v: u32, offset: u16) -> bool
     (offset != 0) & fields::is_first_data_byte(v)
 }
 
-pub fn after_data(stat: u32, offset: u16, pending: Pending, v: u32, length: u16) -> Listened
+pub fn after_data(stat: u32, offset: u16, pending: Option<u8>, v: u32, length: u16) -> Listened
     ensures { result ≡ after_data length stat offset pending v }
 {
     if is_next(v, offset) {
         return super::stay(
-            Pending::Byte(fields::byte_of(v)),
+            Some(fields::byte_of(v)),
             ListenPoint::Watermark(stat, offset),
         );
     }

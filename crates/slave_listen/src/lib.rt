@@ -11,7 +11,6 @@ ghost use Rattle.slave_listen.specs.Inner.Machine.{next_listen, settled, stays, 
 use regs::access::{Next, Store};
 use regs::answers::{Answer, Command, Refusal};
 use regs::fields;
-use slave::Pending;
 
 // STOP_DET, RESTART_DET, GEN_CALL, RD_REQ and RX_FULL in INTR_MASK.
 pub const MASK: u32 = 1 << 9 | 1 << 12 | 1 << 11 | 1 << 5 | 1 << 2;
@@ -44,7 +43,7 @@ pub enum ListenPoint {
 #[derive(Clone, Copy)]
 pub struct Listened {
     pub point: ListenPoint,
-    pub pending: Pending,
+    pub pending: Option<u8>,
     pub store: Store,
 }
 
@@ -123,7 +122,7 @@ pub fn settle(stat: u32, len: u16, length: u16) -> ListenPoint
 }
 
 // A step with which nothing is stored and the pending byte stays.
-pub fn stay(pending: Pending, point: ListenPoint) -> Listened
+pub fn stay(pending: Option<u8>, point: ListenPoint) -> Listened
     ensures { result ≡ stays pending point }
 {
     Listened {
@@ -133,7 +132,7 @@ pub fn stay(pending: Pending, point: ListenPoint) -> Listened
     }
 }
 
-pub fn advance(p: ListenPoint, pending: Pending, v: u32, length: u16) -> Listened
+pub fn advance(p: ListenPoint, pending: Option<u8>, v: u32, length: u16) -> Listened
     ensures { result ≡ advance_listen length p pending v }
 {
     match p {

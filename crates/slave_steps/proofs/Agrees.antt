@@ -8,6 +8,7 @@ use mathlib.Core.Path.{◌≡◌, refl}
 use lib.Dec.{eqb, ltb, eqb-suc-zero}
 use lib.ListN.{length}
 use borrow.Author.Tests.{eqb-false}
+use Rattle.std.specs.Prelude.{Option, Some, None, is_some}
 use Rattle.regs.proofs.Tests.{by_test}
 use Rattle.regs.specs.Program.{Behaviour, ends, ◌>>◌, ◌>>=◌, return, when, exit}
 use Rattle.regs.specs.Steps.{Machine}
@@ -16,11 +17,9 @@ use Rattle.regs.specs.declared.answers.Answer.TheVariants.{Heard, Refused}
 use Rattle.regs.specs.declared.answers.Refusal.TheVariants.{NoPlaceForPending}
 use Rattle.regs.proofs.Refine.{Agree, ends_agree, asks_agree}
 use Rattle.regs.proofs.Lift.{lift}
-use Rattle.slave.specs.I2cSlave.{is_some, listen, answer, listen_call, respond_to_read, respond_and_fill}
+use Rattle.slave.specs.I2cSlave.{listen, answer, listen_call, respond_to_read, respond_and_fill}
 use Rattle.slave.specs.I2cSlave.{respond_to_read_call, respond_till_stop_call, respond_and_fill_call}
 use Rattle.slave.specs.declared.SlaveState.{SlaveState}
-use Rattle.slave.specs.declared.Pending.{Pending}
-use Rattle.slave.specs.declared.Pending.TheVariants.{None, Byte}
 use Rattle.slave.proofs.Basics.{state, none_pending}
 use Rattle.slave_listen.specs.Inner.Machine.{Listener, machine as listening}
 use Rattle.slave_listen.proofs.Listens.{listens}
@@ -66,13 +65,13 @@ module _ (bytes : List ℕ) where
       (λ q. rw q (ends_agree M m refl))
       (λ q. rw q (asks_agree M m (starts me.pending_byte me.address me.general_call)))
     where
-      starts : (p : Pending) (address : ℕ) (g : Bool)
+      starts : (p : Option ℕ) (address : ℕ) (g : Bool)
           → Agree M m (slave (state p address g) length (listen_point p length)) b b (state p address g)
           ((when (is_some p && eqb length 0) (exit (Refused NoPlaceForPending))
           >> (listen length >>= (λ r. return (answer Heard r))))
           n ends)
       starts None address g = in_listen (listens length _ b m n h (λ e. none_pending refl e))
-      starts (Byte c) address g =
+      starts (Some c) address g =
           by_test (eqb length 0)
           (λ q. rw q (ends_agree M m refl))
           (λ q. rw q (in_listen (listens length _ b m n h (λ _. let z : length ≡ 0 → ⊥ = eqb-false length 0 q in omega arith))))

@@ -11,7 +11,7 @@ ghost use Rattle.slave_steps.specs.Inner.Machine.{advance_at};
 use regs::access::{Next, Store};
 use regs::answers::{Answer, Refusal};
 use reset::ResetPoint;
-use slave::{Pending, SlaveState};
+use slave::SlaveState;
 use slave_listen::ListenPoint;
 use slave_respond::{Job, RespondPoint, Response};
 
@@ -70,12 +70,12 @@ pub fn start_reset(state: SlaveState, address: u16, general_call: bool) -> Slave
 }
 
 // A pending byte has no place in an empty buffer.
-fn listen_point(pending: Pending, length: usize) -> Point
+fn listen_point(pending: Option<u8>, length: usize) -> Point
     ensures { result ≡ listen_point pending length }
 {
     match pending {
-        Pending::None => Point::Listening(ListenPoint::RxTl),
-        Pending::Byte(_) => if length == 0 {
+        None => Point::Listening(ListenPoint::RxTl),
+        Some(_) => if length == 0 {
             Point::Refused(Refusal::NoPlaceForPending)
         } else {
             Point::Listening(ListenPoint::RxTl)

@@ -1,8 +1,7 @@
 -- A burst: the slave's run comes from one point to another within `listen` or within a response.
-use Rattle.std.specs.Prelude.{ℕ, ◌+◌, ◌*◌, ◌<◌, ◌≤◌, Bool, false, not, ◌&&◌, List, ◌≡◌, eqb, length, get_or}
+use Rattle.std.specs.Prelude.{ℕ, ◌+◌, ◌*◌, ◌<◌, ◌≤◌, Bool, false, not, ◌&&◌, List, ◌≡◌, eqb, length, get_or, None}
 use Rattle.regs.specs.Fields.{rfne, first_data_byte, rd_req, stop_det, tx_abrt, level}
 use Rattle.slave.specs.declared.SlaveState.{SlaveState}
-use Rattle.slave.specs.declared.Pending.TheVariants.{None}
 use Rattle.slave_listen.specs.declared.ListenPoint.TheVariants.{Status}
 use Rattle.slave_respond.specs.Inner.Machine.{response, count_of, byte_at, chunk_end}
 use Rattle.slave_respond.specs.declared.Job.{Job}

@@ -1,8 +1,7 @@
 -- Polls that find nothing to do: the slave's run comes from a poll to a later one at the same point.
-use Rattle.std.specs.Prelude.{ℕ, ◌<◌, ◌≤◌, Bool, not, ◌&&◌, List, ◌≡◌, eqb}
+use Rattle.std.specs.Prelude.{ℕ, ◌<◌, ◌≤◌, Bool, not, ◌&&◌, List, ◌≡◌, eqb, None}
 use Rattle.regs.specs.Fields.{rd_req, stop_det, tx_abrt, tx_empty, rx_done, level}
 use Rattle.slave.specs.declared.SlaveState.{SlaveState}
-use Rattle.slave.specs.declared.Pending.TheVariants.{None}
 use Rattle.slave_listen.specs.declared.ListenPoint.TheVariants as Listen
 use Rattle.slave_respond.specs.Inner.Machine.{response, count_of}
 use Rattle.slave_respond.specs.declared.Job.{Job}

@@ -1,7 +1,6 @@
 -- The machine of `listen`, with a buffer of `length` places: at each point the access
 -- that is next, and where it leads. Only contracts of inner functions cite this.
-use Rattle.std.specs.Prelude as O
-use Rattle.std.specs.Prelude.{ℕ, ◌+◌, Bool, not, ◌&&◌, eqb, ltb, if◌then◌else◌, Some}
+use Rattle.std.specs.Prelude.{ℕ, ◌+◌, Bool, not, ◌&&◌, eqb, ltb, if◌then◌else◌, Option, Some, None}
 use Rattle.regs.specs.Program.{PENDING}
 use Rattle.regs.specs.Registers.{DATA_CMD, INTR_MASK, RAW_INTR_STAT, RX_TL, CLR_STOP_DET, CLR_GEN_CALL, STATUS, RXFLR, CLR_RESTART_DET}
 use Rattle.regs.specs.Fields.{dat, first_data_byte, rd_req, stop_det, gen_call, restart_det, rfne, level}
@@ -13,8 +12,6 @@ use Rattle.regs.specs.declared.access.Next.{Next}
 use Rattle.regs.specs.declared.access.Next.TheVariants as N
 use Rattle.regs.specs.Store.{Store}
 use Rattle.slave.specs.I2cSlave.{with_pending}
-use Rattle.slave.specs.declared.Pending.{Pending}
-use Rattle.slave.specs.declared.Pending.TheVariants.{None, Byte}
 use Rattle.slave.specs.declared.SlaveState.{SlaveState}
 use Rattle.slave_listen.specs.declared.ListenPoint.{ListenPoint}
 use Rattle.slave_listen.specs.declared.ListenPoint.TheVariants as L
@@ -52,20 +49,20 @@ settled length stat len =
     else (if stop_det stat then L.StuckStop len
     else L.IntrMask len)))))
 
-abbrev pub listened : ListenPoint → Pending → Store → Listened
+abbrev pub listened : ListenPoint → Option ℕ → Store → Listened
 listened point p e = record { point = point; pending = p; store = e }
 
-abbrev pub stays : Pending → ListenPoint → Listened
-stays p point = listened point p O.None
+abbrev pub stays : Option ℕ → ListenPoint → Listened
+stays p point = listened point p None
 
 -- the drain at an offset: a place, or the end of the buffer
 abbrev pub drain_from : ℕ → ℕ → ℕ → ListenPoint
 drain_from length stat offset = if ltb offset length then L.Status stat offset else L.Watermark stat offset
 
-abbrev pub after_level : ℕ → ℕ → ℕ → Pending → ℕ → Listened
+abbrev pub after_level : ℕ → ℕ → ℕ → Option ℕ → ℕ → Listened
 after_level length stat len None v =
     if ltb 0 (level v) then stays None (drain_from length stat len) else stays None (settled length stat len)
-after_level length stat len (Byte b) v =
+after_level length stat len (Some b) v =
     if ltb len length then listened (drain_from length stat (len + 1)) None (Some (len, b)) else stays None (drain_from length stat len)
 
 abbrev pub after_status : ℕ → ℕ → ℕ → ListenPoint
@@ -74,13 +71,13 @@ after_status stat offset v = if rfne v then L.DataCmd stat offset else L.Waterma
 abbrev pub is_next : ℕ → ℕ → Bool
 is_next offset v = not (eqb offset 0) && first_data_byte v
 
-abbrev pub after_data : ℕ → ℕ → ℕ → Pending → ℕ → Listened
+abbrev pub after_data : ℕ → ℕ → ℕ → Option ℕ → ℕ → Listened
 after_data length stat offset p v =
-    if is_next offset v then stays (Byte (dat v)) (L.Watermark stat offset)
-    else (if ltb offset length then listened (drain_from length stat (offset + 1)) p (Some (offset, (dat v)))
+    if is_next offset v then stays (Some (dat v)) (L.Watermark stat offset)
+    else (if ltb offset length then listened (drain_from length stat (offset + 1)) p (Some (offset, dat v))
     else stays p (L.Watermark stat offset))
 
-abbrev pub advance_listen : ℕ → ListenPoint → Pending → ℕ → Listened
+abbrev pub advance_listen : ℕ → ListenPoint → Option ℕ → ℕ → Listened
 advance_listen length L.RxTl p v = stays p (L.RawIntrStat 0)
 advance_listen length (L.RawIntrStat len) p v = stays p (L.Rxflr v len)
 advance_listen length (L.Rxflr stat len) p v = after_level length stat len p v

@@ -1,6 +1,5 @@
 -- The machine of a response: at each point the access that is next, and where it leads. Only contracts of inner functions cite this.
-use Rattle.std.specs.Prelude as O
-use Rattle.std.specs.Prelude.{ℕ, ◌+◌, ◌-◌, List, ◌&&◌, eqb, ltb, get_or, if◌then◌else◌}
+use Rattle.std.specs.Prelude.{ℕ, ◌+◌, ◌-◌, List, ◌&&◌, eqb, ltb, get_or, if◌then◌else◌, None}
 use Rattle.regs.specs.Program.{PENDING}
 use Rattle.regs.specs.Registers.{DATA_CMD, INTR_MASK, RAW_INTR_STAT, CLR_INTR, CLR_RD_REQ, CLR_TX_ABRT, CLR_RX_DONE, TX_ABRT_SOURCE}
 use Rattle.regs.specs.Fields.{tx_empty, rd_req, tx_abrt, rx_done}
@@ -119,6 +118,6 @@ machine bytes =
       K = SlaveState;
       next = λ s. next_respond bytes s.response.job s.response.point;
       advance = λ s v. responder s.state s.length (advance_respond s.length s.response.job s.response.point v);
-      store = λ s v. O.None;
+      store = λ s v. None;
       state = λ s. s.state;
     }

@@ -1,7 +1,6 @@
 -- The slave as a machine of one access a step: the points of `reset`, those of the two machines below, and the
 -- start of each call. Only contracts of inner functions cite this.
-use Rattle.std.specs.Prelude as O
-use Rattle.std.specs.Prelude.{ℕ, List, Bool, eqb, ltb, if◌then◌else◌}
+use Rattle.std.specs.Prelude.{ℕ, List, Bool, eqb, ltb, if◌then◌else◌, Option, Some, None}
 use Rattle.regs.specs.Program.{BLOCK_RESET}
 use Rattle.regs.specs.Registers.{CON, SAR, INTR_MASK, RX_TL, TX_TL, CLR_INTR, ENABLE, ACK_GENERAL_CALL}
 use Rattle.regs.specs.Fields.{b2n, address_field, con_slave}
@@ -12,8 +11,6 @@ use Rattle.regs.specs.declared.access.Next.{Next}
 use Rattle.regs.specs.declared.access.Next.TheVariants as N
 use Rattle.regs.specs.Store.{Store}
 use Rattle.slave.specs.I2cSlave.{with_pending, with_config}
-use Rattle.slave.specs.declared.Pending.{Pending}
-use Rattle.slave.specs.declared.Pending.TheVariants.{None, Byte}
 use Rattle.slave.specs.declared.SlaveState.{SlaveState}
 use Rattle.slave_listen.specs.Inner.Machine.{next_listen, advance_listen}
 use Rattle.slave_listen.specs.declared.ListenPoint.TheVariants as L
@@ -72,9 +69,9 @@ held length = if ltb 4096 length then 0 else length
 abbrev pub within_limits : ℕ → Point → Point
 within_limits length point = if ltb 4096 length then Q.Refused F.OverLimits else point
 
-abbrev pub listen_point : Pending → ℕ → Point
+abbrev pub listen_point : Option ℕ → ℕ → Point
 listen_point None length = Q.Listening L.RxTl
-listen_point (Byte b) length = if eqb length 0 then Q.Refused F.NoPlaceForPending else Q.Listening L.RxTl
+listen_point (Some b) length = if eqb length 0 then Q.Refused F.NoPlaceForPending else Q.Listening L.RxTl
 
 abbrev pub start_listen : SlaveState → ℕ → Slave
 start_listen me length = slave me (held length) (within_limits length (listen_point me.pending_byte length))
@@ -102,11 +99,11 @@ abbrev pub listen_moved : SlaveState → ℕ → Listened → Moved
 listen_moved me length l = moved (with_pending l.pending me) length (Q.Listening l.point) l.store
 
 abbrev pub advance_at : Point → SlaveState → ℕ → ℕ → Moved
-advance_at (Q.Refused why) me length v = moved me length (Q.Refused why) O.None
-advance_at (Q.BlockReset a g) me length v = moved (with_config a g me) length (Q.Resetting R.Disable) O.None
-advance_at (Q.Resetting p) me length v = moved me length (Q.Resetting (advance_reset p v)) O.None
+advance_at (Q.Refused why) me length v = moved me length (Q.Refused why) None
+advance_at (Q.BlockReset a g) me length v = moved (with_config a g me) length (Q.Resetting R.Disable) None
+advance_at (Q.Resetting p) me length v = moved me length (Q.Resetting (advance_reset p v)) None
 advance_at (Q.Listening p) me length v = listen_moved me length (advance_listen length p me.pending_byte v)
-advance_at (Q.Responding r) me length v = moved me length (Q.Responding (advance_respond length r.job r.point v)) O.None
+advance_at (Q.Responding r) me length v = moved me length (Q.Responding (advance_respond length r.job r.point v)) None
 
 -- with the bytes that a response sends
 abbrev pub machine : List ℕ → Machine
