@@ -7,22 +7,22 @@ use lib.Dec.{eqb}
 use lib.ListN.{length, get_or, length-append}
 use Rattle.regs.specs.declared.access.Entry.{Entry}
 use Rattle.regs.specs.declared.access.Entry.TheVariants.{Read, Write, Marked}
-use Rattle.std.specs.Prelude.{if◌then◌else◌}
+use Rattle.std.specs.Prelude.{if◌then◌else◌, Option, Some, None}
 use Rattle.regs.specs.Registers.{TAR, DATA_CMD}
 use Rattle.regs.specs.Fields.{stop, address_field}
 use Rattle.regs.specs.Log.{decode, written_to}
 use Rattle.bus.specs.declared.Direction.{Direction}
 use Rattle.bus.specs.declared.Bus.{Bus}
 use Rattle.bus.specs.declared.Bus.TheVariants.{Idle}
-use Rattle.bus.specs.declared.Opening.{Opening}
-use Rattle.bus.specs.declared.Opening.TheVariants.{None, Start, Restart}
+use Rattle.bus.specs.declared.Condition.{Condition}
+use Rattle.bus.specs.declared.Condition.TheVariants.{Start, Restart}
 use Rattle.bus.specs.Bus.{direction_of, opening_of, opening, byte_sign, closing, after, signs_of, signs, bus_sequence}
 use Rattle.answer_lines.specs.Lines.{LOG_WORDS}
 
-opening_few : (o : Opening) (address : ℕ) (d : Direction) → length (opening o address d) ≤ 2
+opening_few : (o : Option Condition) (address : ℕ) (d : Direction) → length (opening o address d) ≤ 2
 opening_few None address d = omega arith
-opening_few Start address d = omega arith
-opening_few Restart address d = omega arith
+opening_few (Some Start) address d = omega arith
+opening_few (Some Restart) address d = omega arith
 
 closing_few : (last : Bool) → length (closing last) ≤ 1
 closing_few true = omega arith

@@ -1,5 +1,5 @@
 -- What a log makes of the bus (UM10204, and DATA_CMD in the RP2040 datasheet), from an idle bus and with IC_RESTART_EN set.
-use Rattle.std.specs.Prelude.{ℕ, ◌+◌, ◌*◌, Bool, true, false, not, ◌&&◌, List, [], ◌∷◌, ◌++◌, map, get_or, if◌then◌else◌}
+use Rattle.std.specs.Prelude.{ℕ, ◌+◌, ◌*◌, Bool, true, false, not, ◌&&◌, List, [], ◌∷◌, ◌++◌, map, get_or, if◌then◌else◌, Option, Some, None}
 use Rattle.regs.specs.declared.access.Entry.{Entry}
 use Rattle.regs.specs.Registers.{TAR, DATA_CMD}
 use Rattle.regs.specs.Fields.{dat, cmd, stop, restart, address_field}
@@ -8,8 +8,8 @@ use Rattle.bus.specs.declared.Direction.{Direction}
 use Rattle.bus.specs.declared.Direction.TheVariants.{Writing, Reading}
 use Rattle.bus.specs.declared.Bus.{Bus}
 use Rattle.bus.specs.declared.Bus.TheVariants.{Idle, Busy}
-use Rattle.bus.specs.declared.Opening.{Opening}
-use Rattle.bus.specs.declared.Opening.TheVariants.{None, Start, Restart}
+use Rattle.bus.specs.declared.Condition.{Condition}
+use Rattle.bus.specs.declared.Condition.TheVariants.{Start, Restart}
 
 -- what is seen on the bus: entries of different kinds differ, whatever their values
 pub data Sign : Type 0 where
@@ -36,14 +36,14 @@ abbrev pub addressed : Sign → ℕ → Direction → List Sign
 addressed sign address d = sign ∷ address_byte (address * 2 + direction_bit d) ∷ []
 
 -- what comes before a word's byte: on an idle bus START; on a busy one RESTART, where the direction changes or the flag asks for it
-abbrev pub opening_of : Bus → ℕ → Opening
-opening_of Idle w = Start
-opening_of (Busy d) w = if same d (direction_of w) && not (restart w) then None else Restart
+abbrev pub opening_of : Bus → ℕ → Option Condition
+opening_of Idle w = Some Start
+opening_of (Busy d) w = if same d (direction_of w) && not (restart w) then None else Some Restart
 
-abbrev pub opening : Opening → ℕ → Direction → List Sign
+abbrev pub opening : Option Condition → ℕ → Direction → List Sign
 opening None address d = []
-opening Start address d = addressed START address d
-opening Restart address d = addressed RESTART address d
+opening (Some Start) address d = addressed START address d
+opening (Some Restart) address d = addressed RESTART address d
 
 abbrev pub byte_sign : Direction → ℕ → Sign
 byte_sign Writing w = written (dat w)
@@ -77,6 +77,11 @@ sign_word STOP = 0x30000
 sign_word (address_byte b) = 0x40000 + b
 sign_word (written b) = 0x50000 + b
 sign_word read_slot = 0x60000
+
+-- START or RESTART in the same form
+abbrev pub condition_word : Condition → ℕ
+condition_word Start = sign_word START
+condition_word Restart = sign_word RESTART
 
 abbrev pub sign_words : List Sign → List ℕ
 sign_words ss = map sign_word ss

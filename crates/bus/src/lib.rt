@@ -9,53 +9,47 @@ ghost use Rattle.regs.specs.Log.{entry, decode, written_to};
 ghost use Rattle.regs.specs.Registers.{TAR};
 ghost use Rattle.bus.specs.Bus.{direction_of, direction_bit, same, opening_of, opening, byte_sign};
 ghost use Rattle.bus.specs.Bus.{closing, after, signs_of, bus_sequence, sign_word};
-ghost use Rattle.bus.specs.Bus.{sign_words};
-ghost use Rattle.bus.specs.Placed.{written_by, made, moved};
+ghost use Rattle.bus.specs.Bus.{sign_words, condition_word};
+ghost use Rattle.bus.specs.Placed.{written_by, Puts};
 
 use regs::access::{Entry, entry_of};
 use regs::fields::{address_of, byte_of, has_restart, has_stop, is_read};
 
 // The direction of a byte on the bus.
-#[derive(Clone, Copy)]
+#[derive(Clone, Copy, PartialEq, Eq)]
 pub enum Direction {
     Writing,
     Reading,
 }
 
 // The bus between two words. Its operations take it by value and hand back what it has become.
+// This stays an enum of its own, not an Option: idle is a state of the bus, which UM10204 calls free.
 #[derive(Clone, Copy)]
 pub enum Bus {
     Idle,
     Busy(Direction),
 }
 
-// What stands before a word's byte.
+// A condition that stands before a word's byte, with the address.
 #[derive(Clone, Copy)]
-pub enum Opening {
-    None,
+pub enum Condition {
     Start,
     Restart,
 }
 
-// The bus after a word, and what stands before the word's byte.
+// The bus after a word, and the condition before the word's byte, if there is one.
 #[derive(Clone, Copy)]
 pub struct Applied {
     pub bus: Bus,
-    pub opening: Opening,
+    pub opening: Option<Condition>,
 }
 
-// What an entry of a log writes to a register that is asked for.
-#[derive(Clone, Copy)]
-pub enum Written {
-    Nothing,
-    Value(u32),
-}
-
-// The bus, and the next place of the sequence.
-#[derive(Clone, Copy)]
-pub struct Placed {
-    pub bus: Bus,
-    pub at: usize,
+// A sequence under way: the buffer that it is put into, and its next place. What comes past the end
+// of the buffer is left out.
+#[derive(Drop)]
+struct SequenceBuffer<'a> {
+    places: &'a mut [u32],
+    at: usize,
 }
 
 // How the entries of a sequence stand in a buffer: a kind in the
@@ -84,45 +78,27 @@ impl Direction {
     }
 
     fn bit(self) -> u32
-        ensures { (result ≡ direction_bit self)
-            × (result < 2) }
+        ensures value { result ≡ direction_bit self }
+        ensures bit { result < 2 }
     {
-        match self {
-            Direction::Writing => 0,
-            Direction::Reading => 1,
-        }
-    }
-
-    fn is(self, d: Direction) -> bool
-        ensures { result ≡ same self d }
-    {
-        match self {
-            Direction::Writing => match d {
-                Direction::Writing => true,
-                Direction::Reading => false,
-            },
-            Direction::Reading => match d {
-                Direction::Writing => false,
-                Direction::Reading => true,
-            },
-        }
+        self as u32
     }
 
     // Whether a word goes on in this direction, with nothing before its byte.
     fn goes_on(self, w: u32) -> bool
         ensures { result ≡ (same self (direction_of w) && not (restart w)) }
     {
-        self.is(Direction::of(w)) & !has_restart(w)
+        self == Direction::of(w) && !has_restart(w)
     }
 
     // What stands before a word's byte on a bus that is busy in this direction.
-    fn opening(self, w: u32) -> Opening
+    fn opening(self, w: u32) -> Option<Condition>
         ensures { result ≡ opening_of (Bus.Busy self) w }
     {
         if self.goes_on(w) {
-            Opening::None
+            None
         } else {
-            Opening::Restart
+            Some(Condition::Restart)
         }
     }
 
@@ -131,65 +107,20 @@ impl Direction {
         ensures { result ≡ sign_word (byte_sign self w) }
     {
         match self {
-            Direction::Writing => WRITTEN + wide(byte_of(w)),
+            Direction::Writing => WRITTEN + u32::from(byte_of(w)),
             Direction::Reading => READ_SLOT,
         }
     }
 }
 
-fn wide(b: u8) -> u32
-    ensures { result ≡ b }
-{
-    b as u32
-}
-
-// A place past the end of the buffer is no place.
-fn put(out: &mut [u32], at: usize, word: u32)
-    ensures { out.new ≡ set out.old at word }
-{
-    if at < out.len() {
-        out[at] = word;
-    }
-}
-
-// START or RESTART, and the address byte.
-fn put_address(out: &mut [u32], at: usize, first: u32, address: u32, d: Direction) -> usize
-    requires { (address < 1024)
-        × (at + 2 < 2 ^ 64) }
-    ensures { (result ≡ at + 2)
-        × (out.new ≡ sets out.old at
-        (first ∷ (0x40000 + (address * 2 + direction_bit d)) ∷ [])) }
-{
-    put(out, at, first);
-    put(out, at + 1, ADDRESS + (address * 2 + d.bit()));
-    at + 2
-}
-
-impl Opening {
-    fn put(self, out: &mut [u32], at: usize, address: u32, d: Direction) -> usize
-        requires { (address < 1024)
-            × (at + 2 < 2 ^ 64) }
-        ensures { (result ≡ at + length (opening self address d))
-            × (out.new ≡ sets out.old at (sign_words (opening self address d))) }
+impl Condition {
+    fn word(self) -> u32
+        ensures { result ≡ condition_word self }
     {
         match self {
-            Opening::None => at,
-            Opening::Start => put_address(out, at, START, address, d),
-            Opening::Restart => put_address(out, at, RESTART, address, d),
+            Condition::Start => START,
+            Condition::Restart => RESTART,
         }
-    }
-}
-
-fn put_closing(out: &mut [u32], at: usize, last: bool) -> usize
-    requires { at + 1 < 2 ^ 64 }
-    ensures { (result ≡ at + length (closing last))
-        × (out.new ≡ sets out.old at (sign_words (closing last))) }
-{
-    if last {
-        put(out, at, STOP);
-        at + 1
-    } else {
-        at
     }
 }
 
@@ -221,7 +152,7 @@ impl Bus {
         match self {
             Bus::Idle => Applied {
                 bus,
-                opening: Opening::Start,
+                opening: Some(Condition::Start),
             },
             Bus::Busy(d) => Applied {
                 bus,
@@ -229,62 +160,73 @@ impl Bus {
             },
         }
     }
-
-    // Puts what a word makes of the bus into the buffer.
-    fn put(self, out: &mut [u32], at: usize, address: u32, w: u32) -> Placed
-        requires { (address < 1024)
-            × (at + 4 < 2 ^ 64) }
-        ensures { (result.bus ≡ after w)
-            × (result.at ≡ at + length (signs_of self address w))
-            × (out.new ≡ sets out.old at (sign_words (signs_of self address w))) }
-    {
-        let d = Direction::of(w);
-        let applied = self.applied(w);
-        let opening = applied.opening;
-        let first = opening.put(out, at, address, d);
-        put(out, first, d.byte(w));
-        let next = put_closing(out, first + 1, has_stop(w));
-        let bus = applied.bus;
-        Placed { bus, at: next }
-    }
 }
 
-impl Placed {
-    // Puts what an entry of a log makes of the bus into the buffer, where the entry writes a word.
-    fn put(self, out: &mut [u32], address: u32, word: Written) -> Placed
-        requires { (address < 1024)
-            × (self.at + 4 < 2 ^ 64) }
-        ensures { (result.bus ≡ moved self.bus word)
-            × (result.at ≡ self.at + length (made self.bus address word))
-            × (out.new ≡ sets out.old self.at
-            (sign_words (made self.bus address word))) }
+impl SequenceBuffer<'_> {
+    fn put(&mut self, word: u32)
+        requires { self.old.at + 1 < 2 ^ 64 }
+        ensures same_reference { self.new.places.ghost_name ≡ self.old.places.ghost_name }
+        ensures place { self.new.places.now ≡ set self.old.places.now self.old.at word }
+        ensures next { self.new.at ≡ self.old.at + 1 }
     {
-        match word {
-            Written::Nothing => self,
-            Written::Value(w) => {
-                let bus = self.bus;
-                bus.put(out, self.at, address, w)
-            }
+        if self.at < self.places.len() {
+            self.places[self.at] = word;
+        }
+        self.at += 1;
+    }
+
+    // START or RESTART and the address byte, where a condition stands before a word's byte.
+    fn put_opening(&mut self, condition: Option<Condition>, address: u32, d: Direction)
+        requires address { address < 1024 }
+        requires room { self.old.at + 2 < 2 ^ 64 }
+        ensures same_reference { self.new.places.ghost_name ≡ self.old.places.ghost_name }
+        ensures put { Puts self.old.places.now self.old.at (opening condition address d)
+            self.new.places.now self.new.at }
+    {
+        if let Some(first) = condition {
+            self.put(first.word());
+            self.put(ADDRESS + (address * 2 + d.bit()));
         }
     }
+
+    fn put_closing(&mut self, last: bool)
+        requires { self.old.at + 1 < 2 ^ 64 }
+        ensures same_reference { self.new.places.ghost_name ≡ self.old.places.ghost_name }
+        ensures put { Puts self.old.places.now self.old.at (closing last)
+            self.new.places.now self.new.at }
+    {
+        if last {
+            self.put(STOP);
+        }
+    }
+
+    // Puts what a word makes of the bus, and hands back the bus that it leaves.
+    fn put_word(&mut self, bus: Bus, address: u32, w: u32) -> Bus
+        requires address { address < 1024 }
+        requires room { self.old.at + 4 < 2 ^ 64 }
+        ensures same_reference { self.new.places.ghost_name ≡ self.old.places.ghost_name }
+        ensures bus { result ≡ after w }
+        ensures put { Puts self.old.places.now self.old.at (signs_of bus address w)
+            self.new.places.now self.new.at }
+    {
+        let d = Direction::of(w);
+        let applied = bus.applied(w);
+        self.put_opening(applied.opening, address, d);
+        self.put(d.byte(w));
+        self.put_closing(has_stop(w));
+        applied.bus
+    }
 }
 
-// What entry k of a log writes to a register.
-fn written_at(log: &[u32], k: usize, register: u8) -> Written
+// What entry k of a log writes to a register, if it writes to it.
+fn written_at(log: &[u32], k: usize, register: u8) -> Option<u32>
     requires { k < length log.now / 2 }
     ensures { result ≡ written_by register
         (entry (get_or log.now (k * 2) 0) (get_or log.now (k * 2 + 1) 0)) }
 {
-    let at = k * 2;
-    let e = entry_of(log[at], log[at + 1]);
-    match e {
-        Entry::Read(_, _) => Written::Nothing,
-        Entry::Write(r, v) => if r == register {
-            Written::Value(v)
-        } else {
-            Written::Nothing
-        },
-        Entry::Marked(_) => Written::Nothing,
+    match entry_of(log[k * 2], log[k * 2 + 1]) {
+        Entry::Write(r, v) if r == register => Some(v),
+        _ => None,
     }
 }
 
@@ -292,14 +234,9 @@ fn written_at(log: &[u32], k: usize, register: u8) -> Written
 pub fn address_in(log: &[u32]) -> u32
     ensures { result ≡ address_field (get_or (written_to TAR (decode log.now)) 0 0) }
 {
-    let entries = log.len() / 2;
-    let mut k = 0;
-    while k < entries {
-        match written_at(log, k, regs::TAR) {
-            Written::Value(a) => return address_of(a),
-            Written::Nothing => {
-                k += 1;
-            }
+    for k in 0..log.len() / 2 {
+        if let Some(a) = written_at(log, k, regs::TAR) {
+            return address_of(a);
         }
     }
     0
@@ -313,16 +250,12 @@ pub fn bus_sequence(log: &[u32], out: &mut [u32]) -> usize
         (sign_words (bus_sequence (decode log.now)))) }
 {
     let address = address_in(log);
-    let entries = log.len() / 2;
-    let mut placed = Placed {
-        bus: Bus::new(),
-        at: 0,
-    };
-    let mut k = 0;
-    while k < entries {
-        let w = written_at(log, k, regs::DATA_CMD);
-        placed = placed.put(out, address, w);
-        k += 1;
+    let mut sequence = SequenceBuffer { places: out, at: 0 };
+    let mut bus = Bus::new();
+    for k in 0..log.len() / 2 {
+        if let Some(w) = written_at(log, k, regs::DATA_CMD) {
+            bus = sequence.put_word(bus, address, w);
+        }
     }
-    placed.at
+    sequence.at
 }

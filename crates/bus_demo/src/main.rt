@@ -51,11 +51,8 @@ fn say_sign(rt: HostRuntime, word: u32) {
 
 // The places of a buffer that hold a sequence.
 fn say_held(rt: HostRuntime, places: &[u32], count: usize) {
-    let held = counts::least(count, places.len());
-    let mut i = 0;
-    while i < held {
-        say_sign(rt, places[i]);
-        i += 1;
+    for &word in places.iter().take(count) {
+        say_sign(rt, word);
     }
 }
 
@@ -68,56 +65,70 @@ fn say_sequence(rt: HostRuntime, name: &[u8], places: &[u32], count: usize) {
     say(rt, b")\n");
 }
 
-fn show(rt: HostRuntime, name: &[u8], log: &[u32]) {
-    let mut places = [0u32; 16];
-    let count = bus::bus_sequence(log, &mut places);
-    say_sequence(rt, name, &places, count);
-}
-
-// The same with a buffer of two places.
-fn show_two(rt: HostRuntime, name: &[u8], log: &[u32]) {
-    let mut places = [0u32; 2];
-    let count = bus::bus_sequence(log, &mut places);
-    say_sequence(rt, name, &places, count);
+// The sequence of a log, put into the places that are lent for it.
+fn show(rt: HostRuntime, places: &mut [u32], name: &[u8], log: &[u32]) {
+    let count = bus::bus_sequence(log, places);
+    say_sequence(rt, name, places, count);
 }
 
 // One operation.
 fn single(rt: HostRuntime) {
-    show(rt, b"one-byte read:", &[TAR, 0x50, DATA_CMD, 0x700]);
     show(
         rt,
+        &mut [0; 16],
+        b"one-byte read:",
+        &[TAR, 0x50, DATA_CMD, 0x700],
+    );
+    show(
+        rt,
+        &mut [0; 16],
         b"two bytes written:",
         &[TAR, 0x50, DATA_CMD, 0x012, DATA_CMD, 0x234],
     );
-    show(rt, b"general call:", &[TAR, 0x00, DATA_CMD, 0x206]);
-    show(rt, b"highest address:", &[TAR, 0x7f, DATA_CMD, 0x3ff]);
-    show(rt, b"no STOP:", &[TAR, 0x50, DATA_CMD, 0x012]);
+    show(
+        rt,
+        &mut [0; 16],
+        b"general call:",
+        &[TAR, 0x00, DATA_CMD, 0x206],
+    );
+    show(
+        rt,
+        &mut [0; 16],
+        b"highest address:",
+        &[TAR, 0x7f, DATA_CMD, 0x3ff],
+    );
+    show(rt, &mut [0; 16], b"no STOP:", &[TAR, 0x50, DATA_CMD, 0x012]);
 }
 
 // Words that start, join or part operations.
 fn several(rt: HostRuntime) {
     show(
         rt,
+        &mut [0; 16],
         b"write, then read:",
         &[TAR, 0x50, DATA_CMD, 0x012, DATA_CMD, 0x300],
     );
     show(
         rt,
+        &mut [0; 16],
         b"reads joined:",
         &[TAR, 0x50, DATA_CMD, 0x100, DATA_CMD, 0x100, DATA_CMD, 0x300],
     );
     show(
         rt,
+        &mut [0; 16],
         b"RESTART on a busy bus:",
         &[TAR, 0x50, DATA_CMD, 0x012, DATA_CMD, 0x434, DATA_CMD, 0x256],
     );
     show(
         rt,
+        &mut [0; 16],
         b"RESTART on an idle bus:",
         &[TAR, 0x50, DATA_CMD, 0x412, DATA_CMD, 0x234],
     );
     show(
         rt,
+        &mut [0; 16],
         b"STOP, then again:",
         &[TAR, 0x50, DATA_CMD, 0x212, DATA_CMD, 0x300],
     );
@@ -127,6 +138,7 @@ fn several(rt: HostRuntime) {
 fn others(rt: HostRuntime) {
     show(
         rt,
+        &mut [0; 16],
         b"other entries:",
         &[
             0x26c, 0, TAR, 0x50, 0x26c, 1, 0x134, 0x10, DATA_CMD, 0x2a5, 0x300, 0, 0x110, 0x55,
@@ -135,12 +147,18 @@ fn others(rt: HostRuntime) {
     );
     show(
         rt,
+        &mut [0; 16],
         b"odd last word:",
         &[TAR, 0x50, DATA_CMD, 0x25a, DATA_CMD],
     );
-    show(rt, b"no address:", &[DATA_CMD, 0x25a]);
-    show(rt, b"no words:", &[TAR, 0x50]);
-    show_two(rt, b"two places:", &[TAR, 0x50, DATA_CMD, 0x700]);
+    show(rt, &mut [0; 16], b"no address:", &[DATA_CMD, 0x25a]);
+    show(rt, &mut [0; 16], b"no words:", &[TAR, 0x50]);
+    show(
+        rt,
+        &mut [0; 2],
+        b"two places:",
+        &[TAR, 0x50, DATA_CMD, 0x700],
+    );
 }
 
 fn main(rt: HostRuntime) {

@@ -14,7 +14,6 @@ use Rattle.regs.specs.Fields.{address_field}
 use Rattle.regs.specs.Log.{entry, decode, written_to}
 use Rattle.bus.specs.declared.Bus.{Bus}
 use Rattle.bus.specs.declared.Bus.TheVariants.{Idle}
-use Rattle.bus.specs.declared.Written.TheVariants.{Nothing, Value}
 use Rattle.bus.specs.Bus.{signs, bus_sequence}
 use Rattle.bus.specs.Placed.{made, moved}
 use Rattle.answer_frames.specs.declared.Frame.{Frame}
@@ -33,8 +32,8 @@ entry_is offset w =
 word_step : (address : ℕ) (bus : Bus) (w : ℕ) (fs : List (Option Frame)) (later : List ℕ)
     → ((b : Bus) → pieces (To address b) fs ≡ signs b address later)
     → (q : Bool)
-    → made bus address (if q then Value w else Nothing) ++ pieces
-    (To address (moved bus (if q then Value w else Nothing))) fs
+    → made bus address (if q then Some w else None) ++ pieces
+    (To address (moved bus (if q then Some w else None))) fs
     ≡ signs bus address (if q then w ∷ later else later)
 unfolding signs
 word_step address bus w fs later ih true = rw (ih _)
@@ -62,7 +61,7 @@ target_step : (offset w : ℕ) (fs : List (Option Frame))
     → pieces No fs ≡ bus_sequence (decode (kept_from 0 fs))
     → (q : Bool)
     → eqb (offset % 256) TAR ≡ q
-    → pieces (opened (if q then Value w else Nothing)) fs
+    → pieces (opened (if q then Some w else None)) fs
     ≡ bus_sequence (decode ((if q then (0x200 + offset % 256) ∷ w ∷ [] else []) ++ kept_from
     (0 + length (if q then (0x200 + offset % 256) ∷ w ∷ [] else [])) fs))
 unfolding written_to decode

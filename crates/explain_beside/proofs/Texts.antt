@@ -7,8 +7,9 @@ use mathlib.Core.Path.{◌≡◌, refl, sym, ap, ◌∙◌}
 use Rattle.regs.specs.Fields.{cmd, stop}
 use Rattle.text_hex.specs.Text.{hex2}
 use Rattle.bus.specs.declared.Bus.{Bus}
-use Rattle.bus.specs.declared.Opening.{Opening}
-use Rattle.bus.specs.declared.Opening.TheVariants.{None, Start, Restart}
+use Rattle.std.specs.Prelude.{Option, Some, None}
+use Rattle.bus.specs.declared.Condition.{Condition}
+use Rattle.bus.specs.declared.Condition.TheVariants.{Start, Restart}
 use Rattle.bus.specs.Bus.{Sign, direction_bit, opening_of, opening, byte_sign, closing, signs_of}
 use Rattle.explain_bus.specs.Line.{name_text, address_text, run_text, signs_text}
 use Rattle.explain_beside.specs.Inner.Parts.{towards, direction_letter_of, addressed_text, opening_text, data_text, closing_text}
@@ -26,12 +27,12 @@ address_is address false =
     let m : (address * 2 + 0) % 2 ≡ 0 = omega arith in
     rw (d, m)
 
-front : (o : Opening) (address : ℕ) (read : Bool) (ss : List Sign)
+front : (o : Option Condition) (address : ℕ) (read : Bool) (ss : List Sign)
     → opening_text o address read ++ signs_text 0 ss ≡ signs_text 0 (opening o address (towards read) ++ ss)
 unfolding opening_text addressed_text signs_text run_text
 front None address read ss = refl
-front Start address read ss = append_assoc (name_text 0) (address_text (address * 2 + direction_bit (towards read))) (signs_text 0 ss)
-front Restart address read ss = append_assoc (name_text 1) (address_text (address * 2 + direction_bit (towards read))) (signs_text 0 ss)
+front (Some Start) address read ss = append_assoc (name_text 0) (address_text (address * 2 + direction_bit (towards read))) (signs_text 0 ss)
+front (Some Restart) address read ss = append_assoc (name_text 1) (address_text (address * 2 + direction_bit (towards read))) (signs_text 0 ss)
 
 back : (read last : Bool) (w : ℕ) → data_text read w ++ closing_text last ≡ signs_text 0 (byte_sign (towards read) w ∷ closing last)
 unfolding signs_text run_text

@@ -1,11 +1,9 @@
 -- The piece of the bus sequence that a frame's word makes after the frames before it, and the text of a frame with its piece.
-use Rattle.std.specs.Prelude.{ℕ, ◌+◌, ◌-◌, ◌%◌, List, [], ◌∷◌, ◌++◌, eqb, ltb, length, replicate, if◌then◌else◌, Option, Some}
+use Rattle.std.specs.Prelude.{ℕ, ◌+◌, ◌-◌, ◌%◌, List, [], ◌∷◌, ◌++◌, eqb, ltb, length, replicate, if◌then◌else◌, Option, Some, None}
 use Rattle.regs.specs.Registers.{TAR, DATA_CMD}
 use Rattle.regs.specs.Fields.{address_field}
 use Rattle.bus.specs.declared.Bus.{Bus}
 use Rattle.bus.specs.declared.Bus.TheVariants.{Idle}
-use Rattle.bus.specs.declared.Written.{Written}
-use Rattle.bus.specs.declared.Written.TheVariants.{Nothing, Value}
 use Rattle.bus.specs.Bus.{Sign, signs_of}
 use Rattle.bus.specs.Placed.{made, moved}
 use Rattle.text_hex.specs.Text.{LF}
@@ -18,14 +16,14 @@ use Rattle.explain_beside.specs.declared.transfer.Transfer.{Transfer}
 use Rattle.explain_beside.specs.declared.transfer.Transfer.TheVariants.{No, To}
 
 -- what a frame writes to a register
-abbrev pub written_in : ℕ → Option Frame → Written
-written_in r (Some (Write offset w)) = if eqb (offset % 256) r then Value w else Nothing
-written_in r _ = Nothing
+abbrev pub written_in : ℕ → Option Frame → Option ℕ
+written_in r (Some (Write offset w)) = if eqb (offset % 256) r then Some w else None
+written_in r _ = None
 
 -- a write to TAR opens a transfer on an idle bus
-abbrev pub opened : Written → Transfer
-opened Nothing = No
-opened (Value w) = To (address_field w) Idle
+abbrev pub opened : Option ℕ → Transfer
+opened None = No
+opened (Some w) = To (address_field w) Idle
 
 -- what stands before the next frame
 abbrev pub next : Transfer → Option Frame → Transfer
@@ -60,9 +58,9 @@ unfoldable pub word_line : Bus → ℕ → ℕ → List ℕ
 word_line bus address w = filled 52 (access_words 1 DATA_CMD w) ++ (bus_head ++ (signs_text 0 (signs_of bus address w) ++ (LF ∷ [])))
 
 -- the text of a line of an open transfer
-abbrev pub told_word : Bus → ℕ → List ℕ → ℕ → Written → List ℕ
-told_word bus address line room Nothing = explained line room
-told_word bus address line room (Value w) = if ltb room 16900 then [] else word_line bus address w
+abbrev pub told_word : Bus → ℕ → List ℕ → ℕ → Option ℕ → List ℕ
+told_word bus address line room None = explained line room
+told_word bus address line room (Some w) = if ltb room 16900 then [] else word_line bus address w
 
 unfoldable pub told_of : Bus → ℕ → List ℕ → ℕ → List ℕ
 told_of bus address line room = told_word bus address line room (written_in DATA_CMD (frame_of line))

@@ -6,10 +6,10 @@ ghost use Rattle.bus.specs.Bus.{signs_of};
 ghost use Rattle.explain_bus.specs.Line.{signs_text};
 ghost use Rattle.explain_beside.specs.Piece.{bus_head, word_line, told_of, told};
 ghost use Rattle.explain_beside.specs.Inner.Parts.{direction_letter_of, addressed_text, opening_text};
-ghost use Rattle.explain_beside.specs.Inner.Parts.{data_text, closing_text};
+ghost use Rattle.explain_beside.specs.Inner.Parts.{condition_row, data_text, closing_text};
 
 use super::transfer::{Transfer, written};
-use bus::{Bus, Opening, Written};
+use bus::{Bus, Condition};
 use explain_bus::line::{push_kind, push_name, push_run};
 use explain_frames::{explain, push_words};
 use regs::fields::{byte_of, has_stop, is_read};
@@ -27,6 +27,16 @@ fn wide(b: u8) -> u32
     b as u32
 }
 
+fn row_of(condition: Condition) -> usize
+    ensures row { result ≡ condition_row condition }
+    ensures in_table { result < 3 }
+{
+    match condition {
+        Condition::Start => 0,
+        Condition::Restart => 1,
+    }
+}
+
 // START or RESTART, and the address with its direction.
 fn push_addressed(out: &mut [u8], at: usize, row: usize, address: u32, read: bool) -> usize
     requires { (at + 13 ≤ length out.old)
@@ -40,14 +50,19 @@ fn push_addressed(out: &mut [u8], at: usize, row: usize, address: u32, read: boo
     push(out, c, letter(read))
 }
 
-fn push_opening(out: &mut [u8], at: usize, o: Opening, address: u32, read: bool) -> usize
+fn push_opening(
+    out: &mut [u8],
+    at: usize,
+    condition: Option<Condition>,
+    address: u32,
+    read: bool,
+) -> usize
     requires { at + 13 ≤ length out.old }
-    ensures { Appended out.old at (opening_text o address read) 13 out.new result }
+    ensures { Appended out.old at (opening_text condition address read) 13 out.new result }
 {
-    match o {
-        Opening::None => at,
-        Opening::Start => push_addressed(out, at, 0, address, read),
-        Opening::Restart => push_addressed(out, at, 1, address, read),
+    match condition {
+        None => at,
+        Some(first) => push_addressed(out, at, row_of(first), address, read),
     }
 }
 
@@ -134,8 +149,8 @@ fn explain_after(bus: Bus, address: u32, line: &[u8], out: &mut [u8]) -> usize
         (length out.old) out.new result }
 {
     match written(line, regs::DATA_CMD) {
-        Written::Nothing => explain(line, out),
-        Written::Value(w) => {
+        None => explain(line, out),
+        Some(w) => {
             if out.len() < explain_frames::ROOM {
                 return 0;
             }

@@ -5,7 +5,7 @@ ghost use Rattle.bus.specs.Placed.{moved};
 ghost use Rattle.explain_beside.specs.Piece.{written_in, opened, next};
 
 use answer_frames::{Frame, frame_in};
-use bus::{Bus, Written};
+use bus::Bus;
 
 // No transfer, as long as TAR was not written; then its address, and the bus.
 #[derive(Clone, Copy)]
@@ -15,30 +15,30 @@ pub enum Transfer {
 }
 
 // What a line writes to a register.
-pub fn written(line: &[u8], register: u8) -> Written
+pub fn written(line: &[u8], register: u8) -> Option<u32>
     ensures { result ≡ written_in register (frame_of line.now) }
 {
     match frame_in(line) {
-        Some(Frame::Write(offset, w)) if offset % 256 == u32::from(register) => Written::Value(w),
-        _ => Written::Nothing,
+        Some(Frame::Write(offset, w)) if offset % 256 == u32::from(register) => Some(w),
+        _ => None,
     }
 }
 
-fn open(target: Written) -> Transfer
+fn open(target: Option<u32>) -> Transfer
     ensures { result ≡ opened target }
 {
     match target {
-        Written::Nothing => Transfer::No,
-        Written::Value(w) => Transfer::To(regs::fields::address_of(w), Bus::new()),
+        None => Transfer::No,
+        Some(w) => Transfer::To(regs::fields::address_of(w), Bus::new()),
     }
 }
 
-fn go_on(address: u32, bus: Bus, word: Written) -> Transfer
+fn go_on(address: u32, bus: Bus, word: Option<u32>) -> Transfer
     ensures { result ≡ Transfer.To address (moved bus word) }
 {
     match word {
-        Written::Nothing => Transfer::To(address, bus),
-        Written::Value(w) => {
+        None => Transfer::To(address, bus),
+        Some(w) => {
             let applied = bus.applied(w);
             let next = applied.bus;
             Transfer::To(address, next)

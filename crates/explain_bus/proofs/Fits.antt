@@ -13,8 +13,9 @@ use Rattle.bus.specs.declared.Direction.{Direction}
 use Rattle.bus.specs.declared.Direction.TheVariants.{Writing, Reading}
 use Rattle.bus.specs.declared.Bus.{Bus}
 use Rattle.bus.specs.declared.Bus.TheVariants.{Idle}
-use Rattle.bus.specs.declared.Opening.{Opening}
-use Rattle.bus.specs.declared.Opening.TheVariants.{None, Start, Restart}
+use Rattle.std.specs.Prelude.{Option, Some, None}
+use Rattle.bus.specs.declared.Condition.{Condition}
+use Rattle.bus.specs.declared.Condition.TheVariants.{Start, Restart}
 use Rattle.bus.specs.Bus.{Sign, START, RESTART, STOP, address_byte, written, read_slot, direction_bit}
 use Rattle.bus.specs.Bus.{direction_of, opening_of, opening, byte_sign, closing, after, signs}
 use Rattle.bus.specs.Bus.{bus_sequence, sign_word, sign_words}
@@ -42,10 +43,10 @@ fit_address : (address : ℕ) (d : Direction) → address < 1024 → address * 2
 fit_address address Writing h = omega arith
 fit_address address Reading h = omega arith
 
-fit_opening : (o : Opening) (address : ℕ) (d : Direction) → address < 1024 → Fit (opening o address d)
+fit_opening : (o : Option Condition) (address : ℕ) (d : Direction) → address < 1024 → Fit (opening o address d)
 fit_opening None address d h = none
-fit_opening Start address d h = and tt (and (fit_address address d h) none)
-fit_opening Restart address d h = and tt (and (fit_address address d h) none)
+fit_opening (Some Start) address d h = and tt (and (fit_address address d h) none)
+fit_opening (Some Restart) address d h = and tt (and (fit_address address d h) none)
 
 fit_byte : (d : Direction) (w : ℕ) → Fits (byte_sign d w)
 fit_byte Writing w = omega arith

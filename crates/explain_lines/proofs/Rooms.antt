@@ -9,13 +9,11 @@ use lib.Dec.{ltb}
 use lib.ListN.{length, take, drop, length-take, length-drop}
 use lib.Seq.{length-take-le, take-append-le, take-append-add}
 use borrow.Author.Tests.{le-ltb}
-use Rattle.std.specs.Prelude.{if◌then◌else◌}
+use Rattle.std.specs.Prelude.{if◌then◌else◌, Option, Some, None}
 use Rattle.regs.specs.Registers.{DATA_CMD}
 use Rattle.regs.specs.Log.{decode}
 use Rattle.bus.specs.Bus.{bus_sequence}
 use Rattle.bus.specs.declared.Bus.{Bus}
-use Rattle.bus.specs.declared.Written.{Written}
-use Rattle.bus.specs.declared.Written.TheVariants.{Nothing, Value}
 use Rattle.text_hex.specs.Appended.{Appended}
 use Rattle.answer_frames.specs.Frames.{frame_of}
 use Rattle.explain_frames.specs.Texts.{line_text, explained}
@@ -34,11 +32,11 @@ explained_in line room h =
     ap (λ (small : Bool). if ltb 8194 (length line) then [] else (if small then [] else line_text line (frame_of line)))
     (le-ltb room 16900 h)
 
-word_in : (bus : Bus) (address : ℕ) (line : List ℕ) (room : ℕ) (w : Written)
+word_in : (bus : Bus) (address : ℕ) (line : List ℕ) (room : ℕ) (w : Option ℕ)
     → LINE_ROOM ≤ room
     → told_word bus address line room w ≡ told_word bus address line LINE_ROOM w
-word_in bus address line room Nothing h = explained_in line room h
-word_in bus address line room (Value w) h = rw (le-ltb room 16900 h)
+word_in bus address line room None h = explained_in line room h
+word_in bus address line room (Some w) h = rw (le-ltb room 16900 h)
 
 pub told_in : (t : Transfer) (line : List ℕ) (room : ℕ) → LINE_ROOM ≤ room → told t line room ≡ told t line LINE_ROOM
 unfolding told_of

@@ -9,15 +9,15 @@ use lib.ListN.{get_or, replicate}
 use borrow.Author.Tests.{eqb-true}
 use Rattle.crc8.specs.Crc8.{crc8_from, crc8}
 use Rattle.crc8.proofs.Laws.{is_byte, in_parts, residue}
-use Rattle.std.specs.Prelude.{if◌then◌else◌}
+use Rattle.std.specs.Prelude.{if◌then◌else◌, Option, Some, None}
 use Rattle.regs.specs.Log.{Each}
 use Rattle.regs.proofs.Tests.{by_test}
 use Rattle.bus.specs.declared.Direction.{Direction}
 use Rattle.bus.specs.declared.Direction.TheVariants.{Writing, Reading}
 use Rattle.bus.specs.declared.Bus.{Bus}
 use Rattle.bus.specs.declared.Bus.TheVariants.{Idle, Busy}
-use Rattle.bus.specs.declared.Opening.{Opening}
-use Rattle.bus.specs.declared.Opening.TheVariants.{None, Start, Restart}
+use Rattle.bus.specs.declared.Condition.{Condition}
+use Rattle.bus.specs.declared.Condition.TheVariants.{Start, Restart}
 use Rattle.bus.specs.Bus.{Sign, START, RESTART, STOP, address_byte, written, read_slot, opening}
 use Rattle.master.specs.Operations.{Operation, writes, reads}
 use Rattle.master.specs.Sequence.{joined, direction, payload, sequence}
@@ -68,11 +68,11 @@ code_sequence a c os some full =
 
 -- ---- its read slots
 
-opening_slots : (o : Opening) (a : ℕ) (d : Direction) (ss : List Sign) → slots (opening o a d ++ ss) ≡ slots ss
+opening_slots : (o : Option Condition) (a : ℕ) (d : Direction) (ss : List Sign) → slots (opening o a d ++ ss) ≡ slots ss
 unfolding slots
 opening_slots None a d ss = refl
-opening_slots Start a d ss = refl
-opening_slots Restart a d ss = refl
+opening_slots (Some Start) a d ss = refl
+opening_slots (Some Restart) a d ss = refl
 
 written_slots : (bs : List ℕ) (ss : List Sign) → slots (map written bs ++ ss) ≡ slots ss
 unfolding slots

@@ -7,15 +7,15 @@ use mathlib.Core.Bool.{Bool, true, false, not, ◌&&◌, and-false, and-true}
 use mathlib.Core.List.{List, [], ◌∷◌, ◌++◌, map, append_assoc}
 use lib.Dec.{eqb-suc-zero}
 use lib.ListN.{replicate, replicate-append-replicate}
-use Rattle.std.specs.Prelude.{if◌then◌else◌}
+use Rattle.std.specs.Prelude.{if◌then◌else◌, Option, Some, None}
 use Rattle.regs.specs.Fields.{stop, restart, command_word}
 use Rattle.regs.specs.Log.{Each}
 use Rattle.bus.specs.declared.Direction.{Direction}
 use Rattle.bus.specs.declared.Direction.TheVariants.{Writing, Reading}
 use Rattle.bus.specs.declared.Bus.{Bus}
 use Rattle.bus.specs.declared.Bus.TheVariants.{Idle, Busy}
-use Rattle.bus.specs.declared.Opening.{Opening}
-use Rattle.bus.specs.declared.Opening.TheVariants.{None, Start, Restart}
+use Rattle.bus.specs.declared.Condition.{Condition}
+use Rattle.bus.specs.declared.Condition.TheVariants.{Start, Restart}
 use Rattle.bus.specs.Bus.{Sign, RESTART, STOP, written, read_slot, same, direction_of, opening_of, opening, byte_sign, closing, signs}
 use Rattle.master.specs.Operations.{Operation, writes, reads}
 use Rattle.master.specs.Sequence.{joined_to, joined, direction, payload, sequence_from, sequence}
@@ -31,9 +31,9 @@ abbrev pub OfBytes : Operation ℕ → Type 0
 OfBytes = Small
 
 -- what comes before a byte, by its direction and its RESTART flag
-abbrev pub opens : Bus → Direction → Bool → Opening
-opens Idle d flag = Start
-opens (Busy e) d flag = if same e d && not flag then None else Restart
+abbrev pub opens : Bus → Direction → Bool → Option Condition
+opens Idle d flag = Some Start
+opens (Busy e) d flag = if same e d && not flag then None else Some Restart
 
 abbrev pub front : Bus → ℕ → Direction → Bool → List Sign
 front bus a d flag = opening (opens bus d flag) a d

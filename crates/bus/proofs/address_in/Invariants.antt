@@ -1,15 +1,10 @@
 -- `address_in`: the loop's invariant is that the first value written to TAR from entry k on is that of the
 -- whole log. `first_here` ends it at a write, `first_later` passes an entry that writes none, `first_none`
--- gives 0 at the end (proofs/Sequence.antt); `entries - k` decreases.
+-- gives 0 at the end (proofs/Sequence.antt).
 use Rattle.bus.proofs.Sequence.{first}
 use Rattle.regs.specs.Registers.{TAR}
-use lib.ListN.{length}
 use mathlib.Core.Path.{◌≡◌}
-use Prim.Native.Nat.{◌/◌, ◌-◌, ◌≤◌}
 use Rattle.bus.proofs.address_in.Given as goal
 
 abbrev pub invariant-loop-k : goal.invariant-loop-k
-invariant-loop-k l = (l.entries ≡ length l.log / 2) × (l.k ≤ l.entries) × (first TAR l.log l.k ≡ first TAR l.log 0)
-
-abbrev pub decreases-loop-k : goal.decreases-loop-k
-decreases-loop-k l = l.entries - l.k
+invariant-loop-k l = first TAR l.log l.k ≡ first TAR l.log 0

@@ -1,10 +1,10 @@
 -- The parts of a piece's text. Only contracts of inner functions cite this.
-use Rattle.std.specs.Prelude.{ℕ, ◌+◌, ◌*◌, Bool, List, [], ◌++◌, if◌then◌else◌}
+use Rattle.std.specs.Prelude.{ℕ, ◌+◌, ◌*◌, Bool, List, [], ◌++◌, if◌then◌else◌, Option, Some, None}
 use Rattle.regs.specs.Fields.{dat}
 use Rattle.bus.specs.declared.Direction.{Direction}
 use Rattle.bus.specs.declared.Direction.TheVariants.{Writing, Reading}
-use Rattle.bus.specs.declared.Opening.{Opening}
-use Rattle.bus.specs.declared.Opening.TheVariants.{None, Start, Restart}
+use Rattle.bus.specs.declared.Condition.{Condition}
+use Rattle.bus.specs.declared.Condition.TheVariants.{Start, Restart}
 use Rattle.bus.specs.Bus.{direction_bit}
 use Rattle.explain_bus.specs.Line.{name_text, address_text, byte_text, run_text}
 
@@ -18,10 +18,14 @@ direction_letter_of read = if read then 114 else 119
 unfoldable pub addressed_text : ℕ → ℕ → Bool → List ℕ
 addressed_text row address read = name_text row ++ address_text (address * 2 + direction_bit (towards read))
 
-unfoldable pub opening_text : Opening → ℕ → Bool → List ℕ
+-- the row of a condition's name
+abbrev pub condition_row : Condition → ℕ
+condition_row Start = 0
+condition_row Restart = 1
+
+unfoldable pub opening_text : Option Condition → ℕ → Bool → List ℕ
 opening_text None address read = []
-opening_text Start address read = addressed_text 0 address read
-opening_text Restart address read = addressed_text 1 address read
+opening_text (Some condition) address read = addressed_text (condition_row condition) address read
 
 abbrev pub data_text : Bool → ℕ → List ℕ
 data_text read w = if read then run_text 1 else byte_text (dat w)

@@ -8,13 +8,13 @@ use Rattle.explain_beside.proofs.beside.explain_after.Goals as goal
 
 pub returns-then-out-lt-ROOM : goal.returns-then-out-lt-ROOM
 unfolding told_of
-returns-then-out-lt-ROOM c = rw (← c.written.ensures, c.in-Value.is, lt-ltb _ _ c.if-out-lt-ROOM.true) (nothing _ _ _)
+returns-then-out-lt-ROOM c = rw (← c.written.ensures, c.in-Some.is, lt-ltb _ _ c.if-out-lt-ROOM.true) (nothing _ _ _)
 
-pub returns-in-Nothing : goal.returns-in-Nothing
+pub returns-in-None : goal.returns-in-None
 unfolding told_of
-returns-in-Nothing c = rw (← c.written.ensures, c.in-Nothing.is) c.explain.ensures
+returns-in-None c = rw (← c.written.ensures, c.in-None.is) c.explain.ensures
 
 pub returns-else-out-lt-ROOM : goal.returns-else-out-lt-ROOM
 unfolding told_of
-returns-else-out-lt-ROOM c = rw (← c.written.ensures, c.in-Value.is, le-ltb _ _ c.if-out-lt-ROOM.false)
+returns-else-out-lt-ROOM c = rw (← c.written.ensures, c.in-Some.is, le-ltb _ _ c.if-out-lt-ROOM.false)
     (within _ c.if-out-lt-ROOM.false c.push_word.ensures)
