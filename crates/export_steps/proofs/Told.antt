@@ -25,8 +25,8 @@ use Rattle.regs.proofs.Tests.{by_test}
 use Rattle.master.specs.Inner.Running.{Sum, running}
 use Rattle.transfer.specs.Inner.Machine.{next_at, next_of, step_of, moved_to, advance_of}
 use Rattle.transfer.specs.Inner.Machine.{begun, opened, opened_write, opened_read}
-use Rattle.transfer.specs.declared.Step.{Step}
-use Rattle.transfer.specs.declared.Step.TheVariants.{Go, Done}
+use Rattle.transfer.specs.Inner.Machine.{StepTaken}
+use Rattle.std.specs.Prelude.{Some, None, Ok, Err}
 use Rattle.transfer.specs.declared.Transfer.{Transfer}
 use Rattle.words_points.specs.Held.{held_in, held_of}
 use Rattle.words_points.proofs.Kept.{Going, Ended, point_kept}
@@ -127,10 +127,11 @@ module _ (coded : Bool) (kinds lengths : List ℕ) (t : Transfer) where
   unfolding opened opened_write opened_read
   opened_address n kind len last = by_test (eqb kind 1) (λ q. rw q) (λ q. rw q)
 
-  moved_address : (step : Step) → (moved_to coded kinds lengths t step).address ≡ t.address
+  moved_address : (step : StepTaken) → (moved_to coded kinds lengths t step).address ≡ t.address
   unfolding begun
-  moved_address (Go p) = refl
-  moved_address Done =
+  moved_address (Ok (Some p)) = refl
+  moved_address (Err r) = refl
+  moved_address (Ok None) =
       by_test (ltb t.begun (length kinds)) (λ q. rw q (opened_address (t.begun + 1) (get_or kinds t.begun 0) _ _)) (λ q. rw q)
 
   pub same_address : (v : ℕ) → (advance_of coded kinds lengths t v).address ≡ t.address

@@ -24,8 +24,8 @@ use Rattle.transfer.specs.Inner.Machine.{machine, next_at, next_setup, next_abor
 use Rattle.transfer.specs.Inner.Machine.{step_of, step_setup, step_abort, step_wait, step_stop, returned, stop_returned}
 use Rattle.transfer.specs.Inner.Machine.{wait_stop, try_step, mask_for, poll_point, moved_to, begun}
 use Rattle.transfer.specs.declared.Transfer.{Transfer}
-use Rattle.transfer.specs.declared.Tried as T
-use Rattle.transfer.specs.declared.Tried.TheVariants.{Fine, Failed}
+use Rattle.transfer.specs.Inner.Points as T
+use Rattle.std.specs.Prelude.{Ok, Err}
 use Rattle.transfer.specs.declared.Caller.{Caller}
 use Rattle.transfer.specs.declared.Caller.TheVariants as C
 use Rattle.transfer.specs.declared.AbortPoint.TheVariants as A
@@ -56,8 +56,8 @@ sum_is a n h = omega arith
 
 -- what the machine knows of an abort, as the Rust's value
 abbrev pub as_tried : T.Tried → Tried (Unit {0})
-as_tried Fine = ok tt
-as_tried (Failed r) = err r
+as_tried (Ok u) = ok u
+as_tried (Err r) = err r
 
 module _ (coded : Bool) (kinds lengths bytes : List ℕ) where
   abbrev pub M : Machine
@@ -88,13 +88,13 @@ module _ (coded : Bool) (kinds lengths bytes : List ℕ) where
       → ((m' : ℕ)
       → m' < m
       → (p : Point)
-      → Agrees m' (moved_to coded kinds lengths (with_point t p) (returned t.len t.send_stop caller Fine)) b
+      → Agrees m' (moved_to coded kinds lengths (with_point t p) (returned t.len t.send_stop caller (Ok tt))) b
       (k (ok tt)))
       → ((m' : ℕ)
       → m' < m
       → (p : Point) (r : AbortReason)
       → Agrees m'
-      (moved_to coded kinds lengths (with_point t p) (returned t.len t.send_stop caller (Failed r))) b
+      (moved_to coded kinds lengths (with_point t p) (returned t.len t.send_stop caller (Err r))) b
       (k (err r)))
       → Agrees m (with_point t (Abort A.Source caller)) b ((read_and_clear_abort_reason reason_of) n k)
   unfolding read_and_clear_abort_reason next_at next_abort step_of step_abort store_at
@@ -125,8 +125,8 @@ module _ (coded : Bool) (kinds lengths bytes : List ℕ) where
           → (b : List ℕ)
           → Agrees m (with_point t (Stop (S.Clear r))) b (reads CLR_STOP_DET (λ v. k (as_tried r)))
       unfolding next_at next_stop step_of step_stop store_at try_step
-      cleared Fine m h b = reads_agree M m refl (λ m₁ l₁ v. good m₁ (omega arith) (Stop (S.Clear Fine)) b)
-      cleared (Failed r) m h b = reads_agree M m refl (λ m₁ l₁ v. bad m₁ (omega arith) b r)
+      cleared (Ok tt) m h b = reads_agree M m refl (λ m₁ l₁ v. good m₁ (omega arith) (Stop (S.Clear (Ok tt))) b)
+      cleared (Err r) m h b = reads_agree M m refl (λ m₁ l₁ v. bad m₁ (omega arith) b r)
 
       -- the polls, from the abort's source on
       polling : (had : T.Tried) (m : ℕ) → m ≤ top → m ≤ n → (b : List ℕ)
@@ -134,39 +134,39 @@ module _ (coded : Bool) (kinds lengths bytes : List ℕ) where
           (wait_on tt (λ _. stop_poll reason_of (as_tried had)) (modify INTR_MASK (λ w. set_m_tx_abrt (set_m_stop_det w))) n
           (λ second. reads CLR_STOP_DET (λ v. k (both (as_tried had) second))))
       unfolding next_at next_stop step_of step_stop store_at returned stop_returned mask_for poll_point
-      polling Fine m h l b =
-          loop_agree M n _ _ (λ x y. with_point t (Abort A.Source (C.Stop Fine))) (λ (x : Unit {0}) (y : Unit {0}). Unit {0}) n m l
-          (λ m₁ l₁ x y b i rest back. reason_agrees t (C.Stop Fine) m₁ n b _
+      polling (Ok tt) m h l b =
+          loop_agree M n _ _ (λ x y. with_point t (Abort A.Source (C.Stop (Ok tt)))) (λ (x : Unit {0}) (y : Unit {0}). Unit {0}) n m l
+          (λ m₁ l₁ x y b i rest back. reason_agrees t (C.Stop (Ok tt)) m₁ n b _
           (λ m₂ l₂ p. reads_agree M m₂ refl (λ m₃ l₃ v. by_test (stop_det v)
-          (λ q. rw q (cleared Fine m₃ (omega arith) b))
-          (λ q. rw q (pend_agrees t (O.Stop Fine) m₃ b _ (λ m₄ l₄. back m₄ (omega arith) tt tt b tt)))))
-          (λ m₂ l₂ p r. cleared (Failed r) m₂ (omega arith) b)) tt tt b tt
-      polling (Failed r) m h l b =
-          loop_agree M n _ _ (λ x y. with_point t (Abort A.Source (C.Stop (Failed r)))) (λ (x : Unit {0}) (y : Unit {0}). Unit {0}) n m l
+          (λ q. rw q (cleared (Ok tt) m₃ (omega arith) b))
+          (λ q. rw q (pend_agrees t (O.Stop (Ok tt)) m₃ b _ (λ m₄ l₄. back m₄ (omega arith) tt tt b tt)))))
+          (λ m₂ l₂ p r. cleared (Err r) m₂ (omega arith) b)) tt tt b tt
+      polling (Err r) m h l b =
+          loop_agree M n _ _ (λ x y. with_point t (Abort A.Source (C.Stop (Err r)))) (λ (x : Unit {0}) (y : Unit {0}). Unit {0}) n m l
           (λ m₁ l₁ x y b i rest back.
-          let status : (m₂ : ℕ) → m₂ < m₁ → Agrees m₂ (with_point t (Stop (S.Stat (Failed r)))) b
+          let status : (m₂ : ℕ) → m₂ < m₁ → Agrees m₂ (with_point t (Stop (S.Stat (Err r)))) b
           (reads RAW_INTR_STAT (λ s. (if◌then◌else◌ {A = Driver (Poll (Unit {0}) (Tried (Unit {0})))} (stop_det s)
           (return (ready (ok tt))) (return (pending tt)))
           n (λ w. polled (modify INTR_MASK (λ w. set_m_tx_abrt (set_m_stop_det w))) w n
           (λ w. by_turn w rest (λ second. reads CLR_STOP_DET (λ v. k (both (err r) second)))))))
           = λ m₂ l₂. reads_agree M m₂ refl (λ m₃ l₃ v. by_test (stop_det v)
-          (λ q. rw q (cleared (Failed r) m₃ (omega arith) b))
-          (λ q. rw q (pend_agrees t (O.Stop (Failed r)) m₃ b _ (λ m₄ l₄. back m₄ (omega arith) tt tt b tt)))) in
-          reason_agrees t (C.Stop (Failed r)) m₁ n b _ (λ m₂ l₂ p. status m₂ l₂) (λ m₂ l₂ p s. status m₂ l₂)) tt tt b tt
+          (λ q. rw q (cleared (Err r) m₃ (omega arith) b))
+          (λ q. rw q (pend_agrees t (O.Stop (Err r)) m₃ b _ (λ m₄ l₄. back m₄ (omega arith) tt tt b tt)))) in
+          reason_agrees t (C.Stop (Err r)) m₁ n b _ (λ m₂ l₂ p. status m₂ l₂) (λ m₂ l₂ p s. status m₂ l₂)) tt tt b tt
 
       wanted : (stop : Bool) (m : ℕ)
           → m ≤ top
           → m ≤ n
           → (p : Point) (b : List ℕ)
-          → Agrees m (moved_to coded kinds lengths (with_point t p) (wait_stop stop Fine)) b
+          → Agrees m (moved_to coded kinds lengths (with_point t p) (wait_stop stop (Ok tt))) b
           (wait_stop_det reason_of (ok tt) stop n k)
       unfolding wait_stop wait_stop_det
-      wanted true m h l p b = polling Fine m h l b
+      wanted true m h l p b = polling (Ok tt) m h l b
       wanted false m h l p b = good m h p b
 
       pub stops_agree : (had : T.Tried) (m : ℕ) → m ≤ top → m ≤ n → (p : Point) (b : List ℕ)
           → Agrees m (moved_to coded kinds lengths (with_point t p) (wait_stop t.send_stop had)) b
           (wait_stop_det reason_of (as_tried had) t.send_stop n k)
       unfolding wait_stop wait_stop_det
-      stops_agree Fine m h l p b = wanted t.send_stop m h l p b
-      stops_agree (Failed r) m h l p b = polling (Failed r) m h l b
+      stops_agree (Ok tt) m h l p b = wanted t.send_stop m h l p b
+      stops_agree (Err r) m h l p b = polling (Err r) m h l b

@@ -9,7 +9,7 @@ use Rattle.master.specs.Async.{wait_stop_det}
 use Rattle.transfer.specs.Inner.Points.{with_point}
 use Rattle.transfer.specs.Inner.Machine.{wait_stop, moved_to, begun}
 use Rattle.transfer.specs.declared.Transfer.{Transfer}
-use Rattle.transfer.specs.declared.Tried as T
+use Rattle.transfer.specs.Inner.Points as T
 use Rattle.transfer.specs.declared.Point.{Point}
 use Rattle.i2c.proofs.Basics.{Agrees, as_tried, fails, stops_agree}
 

@@ -24,7 +24,7 @@ use Rattle.transfer.specs.Inner.Machine.{returned, mask_for, poll_point, some_re
 use Rattle.transfer.specs.declared.Transfer.{Transfer}
 use Rattle.transfer.specs.declared.Round.{Round}
 use Rattle.transfer.specs.declared.Mode.TheVariants.{Async}
-use Rattle.transfer.specs.declared.Tried.TheVariants.{Fine, Failed}
+use Rattle.std.specs.Prelude.{Ok, Err}
 use Rattle.transfer.specs.declared.Caller.TheVariants as C
 use Rattle.transfer.specs.declared.RoundPoint.TheVariants as Q
 use Rattle.transfer.specs.declared.Poll.TheVariants as O
@@ -124,7 +124,7 @@ module _ (coded : Bool) (kinds lengths bytes : List ℕ) (t : Transfer) (n : ℕ
         fetches (min (level v) remaining) (t.at + (t.len - remaining)) (remaining - min (level v) remaining) queue
         batch m₃ _ (omega arith) (omega arith) fits
         (λ m₄ l₄ p b. back m₄ (omega arith) (remaining - min (level v) remaining) queue batch p b (omega arith)) p b)))
-        (λ m₃ l₃ p r. ending_agrees coded kinds lengths bytes t k top n good (Failed r) m₃ (omega arith) (omega arith) p b))) tt tt b tt
+        (λ m₃ l₃ p r. ending_agrees coded kinds lengths bytes t k top n good (Err r) m₃ (omega arith) (omega arith) p b))) tt tt b tt
 
     -- a round, where bytes remain and where none does
     turns : (remaining queue batch m : ℕ)
@@ -137,7 +137,7 @@ module _ (coded : Bool) (kinds lengths bytes : List ℕ) (t : Transfer) (n : ℕ
         (read_round reason_of t.at t.len t.restart t.send_stop
         (record { remaining = remaining; remaining_queue = queue }) n (λ w. by_turn w next (ending t k n)))
     unfolding tx_fifo_capacity next_turn next_at next_round store_at store_round step_of step_round places batch_step
-    turns zero queue batch m h l p b next some back = ending_agrees coded kinds lengths bytes t k top n good Fine m h l p b
+    turns zero queue batch m h l p b next some back = ending_agrees coded kinds lengths bytes t k top n good (Ok tt) m h l p b
     turns (suc remaining) queue batch m h l p b next some back =
         rw (ne_eqb (suc remaining) 0 (λ z. omega arith), lt-ltb 0 (suc remaining) (omega arith))
         (reads_agree R m refl (λ m₁ l₁ v. by_test (ltb 16 (level v))

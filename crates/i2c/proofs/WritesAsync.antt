@@ -21,7 +21,7 @@ use Rattle.transfer.specs.Inner.Machine.{next_at, next_fill, next_wait, fill_wor
 use Rattle.transfer.specs.Inner.Machine.{step_wait, places, free_step, full_step, filling, after_index, returned}
 use Rattle.transfer.specs.Inner.Machine.{mask_for, poll_point, moved_to}
 use Rattle.transfer.specs.declared.Transfer.{Transfer}
-use Rattle.transfer.specs.declared.Tried.TheVariants.{Fine, Failed}
+use Rattle.std.specs.Prelude.{Ok, Err}
 use Rattle.transfer.specs.declared.Caller.TheVariants as C
 use Rattle.transfer.specs.declared.AbortPoint.TheVariants as A
 use Rattle.transfer.specs.declared.FillPoint.TheVariants as F
@@ -70,7 +70,7 @@ module _ (coded : Bool) (kinds lengths bytes : List ℕ) (t : Transfer) (k : Uni
       (λ m₄ l₄. pend_agrees coded kinds lengths bytes t (O.Space i) m₄ b _
       (λ m₅ l₅. again m₅ (omega arith) tt tt b tt))))
       (λ z. rw z (back m₃ (omega arith) rest i b held))))))
-      (λ m₂ l₂ p r. ending_agrees coded kinds lengths bytes t k top n good (Failed r) m₂ (omega arith) (omega arith) p b)) tt tt b tt
+      (λ m₂ l₂ p r. ending_agrees coded kinds lengths bytes t k top n good (Err r) m₂ (omega arith) (omega arith) p b)) tt tt b tt
 
   -- the free places are filled
   fills : (space : ℕ) (rest : List ℕ) (i m : ℕ)
@@ -86,7 +86,7 @@ module _ (coded : Bool) (kinds lengths bytes : List ℕ) (t : Transfer) (k : Uni
   fills (suc space) [] i m h l p b next held back =
       let e : i ≡ t.len = held_end bytes t i held in
       rw (ne_eqb (suc space) 0 (λ z. omega arith), le-ltb i t.len (omega arith))
-      (ending_agrees coded kinds lengths bytes t k top n good Fine m h l p b)
+      (ending_agrees coded kinds lengths bytes t k top n good (Ok tt) m h l p b)
   fills (suc space) (byte ∷ rest) i m h l p b next held back =
       let c : (get_or bytes (t.at + i) 0 ≡ byte) × (Held bytes t rest (i + 1) × (i < t.len)) = held_head bytes t byte rest i held in
       let e : get_or bytes (t.at + i) 0 ≡ byte = c.0 in

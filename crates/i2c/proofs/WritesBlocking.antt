@@ -19,8 +19,8 @@ use Rattle.transfer.specs.Inner.Points.{with_point}
 use Rattle.transfer.specs.Inner.Machine.{next_at, next_write, next_stop, write_word, store_at, step_of, step_write}
 use Rattle.transfer.specs.Inner.Machine.{step_stop, closes, returned, try_step, moved_to, begun}
 use Rattle.transfer.specs.declared.Transfer.{Transfer}
-use Rattle.transfer.specs.declared.Tried as T
-use Rattle.transfer.specs.declared.Tried.TheVariants.{Fine, Failed}
+use Rattle.transfer.specs.Inner.Points as T
+use Rattle.std.specs.Prelude.{Ok, Err}
 use Rattle.transfer.specs.declared.WritePoint.TheVariants as W
 use Rattle.transfer.specs.declared.StopPoint.TheVariants as S
 use Rattle.transfer.specs.declared.Caller.TheVariants as C
@@ -81,7 +81,7 @@ module _ (coded : Bool) (kinds lengths bytes : List ℕ) (t : Transfer) (k : Uni
         → m' < m
         → (p : Point) (b : List ℕ)
         → Agrees coded kinds lengths bytes m'
-        (moved_to coded kinds lengths (with_point t p) (returned t.len t.send_stop (C.Write i) Fine)) b
+        (moved_to coded kinds lengths (with_point t p) (returned t.len t.send_stop (C.Write i) (Ok tt))) b
         (settles i rest (ok tt)))
         → Agrees coded kinds lengths bytes m (with_point t (WriteBlocking (W.Send i))) b (bytes_from i (byte ∷ rest))
     unfolding write_blocking_bytes next_at next_write write_word store_at step_of step_write returned try_step
@@ -93,7 +93,7 @@ module _ (coded : Bool) (kinds lengths bytes : List ℕ) (t : Transfer) (k : Uni
         (λ m₂ l₂ b again back v q. rw (not_true (tx_empty v) q) (back m₂ (omega arith) b))
         (λ m₂ l₂ b v q. rw (not_false (tx_empty v) q) (reason_agrees coded kinds lengths bytes t (C.Write i) m₂ n b _
         (λ m₃ l₃ p. next m₃ (omega arith) p b)
-        (λ m₃ l₃ p r. stops (Failed r) _ m₃ (omega arith) b (λ m₄ l₄ p b. fails coded kinds lengths bytes t m₄ b r))))))
+        (λ m₃ l₃ p r. stops (Err r) _ m₃ (omega arith) b (λ m₄ l₄ p b. fails coded kinds lengths bytes t m₄ b r))))))
 
     -- the bytes from byte i on, of which there is one at least
     bytes_agree : (byte : ℕ) (rest : List ℕ) (i m : ℕ) → m ≤ top → m ≤ n → (b : List ℕ) → Held bytes t (byte ∷ rest) i
@@ -102,7 +102,7 @@ module _ (coded : Bool) (kinds lengths bytes : List ℕ) (t : Transfer) (k : Uni
     bytes_agree byte [] i m h l b held =
         let e : i + 1 ≡ t.len = held.sum in
         sends byte [] i m h l b held (λ m₁ l₁ p b. by_test (t.send_stop && eqb i (t.len - 1))
-        (λ q. rw q (stops Fine _ m₁ (omega arith) b (λ m₂ l₂ p b. good m₂ (omega arith) p b)))
+        (λ q. rw q (stops (Ok tt) _ m₁ (omega arith) b (λ m₂ l₂ p b. good m₂ (omega arith) p b)))
         (λ q. rw (q, lt-ltb i t.len (omega arith), le-ltb (i + 1) t.len (omega arith)) (good m₁ (omega arith) p b)))
     bytes_agree byte (next ∷ rest) i m h l b held =
         let e : i + suc (suc (length rest)) ≡ t.len = held.sum in

@@ -3,10 +3,9 @@
 // crates `transfer_access` to `transfer_steps` are its code. Apart, each is proved quickly.
 #![tactic(auto)]
 
-pub mod counts; // counts of bytes and places
-pub mod refusals; // ends by a refusal
+pub mod counts; // places of the FIFO, and places in a buffer
 
-use regs::answers::{AbortReason, Answer};
+use regs::answers::{AbortReason, Answer, Refusal};
 
 #[derive(Clone, Copy)]
 pub enum Mode {
@@ -14,12 +13,8 @@ pub enum Mode {
     Async,
 }
 
-// `Result<(), Error>`, where the Rust looks at it.
-#[derive(Clone, Copy)]
-pub enum Tried {
-    Fine,
-    Failed(AbortReason),
-}
+// `Result<(), Error>`, where the Rust looks at it: the errors that it then holds are aborts.
+pub type Tried = Result<(), AbortReason>;
 
 // What the rounds of an async read count: the bytes still to
 // take, the words still to queue, and the words of this round.
@@ -128,12 +123,8 @@ pub enum Point {
     Finished(Answer),
 }
 
-// Where a reading leads: to a point, or to the next operation.
-#[derive(Clone, Copy)]
-pub enum Step {
-    Go(Point),
-    Done,
-}
+// Where a reading leads: to a point, to the next operation, or to the end of the transfer by a refusal.
+pub type Step = Result<Option<Point>, Refusal>;
 
 // A transfer: its point, the operation under way (where it starts in its
 // buffer, its length, and whether STOP rides on its last word), the number

@@ -10,6 +10,7 @@ use regs::access::{Next, Store};
 use transfer::{Point, Transfer};
 
 // The access that is next, or the answer. `bytes` are the lent write buffer.
+#[tactic(auto, unfolding(transfer::specs::Inner::Machine::next_at))]
 pub fn next_access(t: Transfer, bytes: &[u8]) -> Next
     ensures { result ≡ next_of bytes.now t }
 {
@@ -28,6 +29,7 @@ pub fn next_access(t: Transfer, bytes: &[u8]) -> Next
 }
 
 // What an access that read v puts into the lent read buffer.
+#[tactic(auto, unfolding(transfer::specs::Inner::Machine::store_at))]
 pub fn store(t: Transfer, v: u32) -> Store
     ensures { result ≡ store_of t v }
 {

@@ -8,7 +8,7 @@ ghost use Rattle.transfer.specs.Inner.Machine.{next_stop, store_read, store_roun
 
 use regs::access::{Next, Store};
 use regs::fields::{address_of, word_of};
-use transfer::counts::{difference, less, sum};
+use transfer::counts::sum;
 use transfer::{
     AbortPoint, FillPoint, ReadPoint, RoundPoint, SetupPoint, StopPoint, WaitPoint, WritePoint,
 };
@@ -27,39 +27,49 @@ fn byte_of(bytes: &[u8], at: usize, i: u16) -> u8
 }
 
 // A blocking read's word for byte i.
+#[tactic(auto, unfolding(transfer::specs::Inner::Machine::read_word))]
 fn word_of_read(i: u16, len: u16, send_stop: bool, restart: bool) -> u32
     ensures { result ≡ read_word i len send_stop restart }
 {
-    word_of(0, true, send_stop & (i == less(len)), restart & (i == 0))
+    word_of(
+        0,
+        true,
+        send_stop & (i == len.saturating_sub(1)),
+        restart & (i == 0),
+    )
 }
 
 // A blocking write's word for byte i.
+#[tactic(auto, unfolding(transfer::specs::Inner::Machine::write_word))]
 fn word_of_write(byte: u8, i: u16, len: u16, send_stop: bool) -> u32
     ensures { result ≡ write_word byte i len send_stop }
 {
-    word_of(byte, false, send_stop & (i == less(len)), false)
+    word_of(byte, false, send_stop & (i == len.saturating_sub(1)), false)
 }
 
 // An async read's word, with so many still to queue.
+#[tactic(auto, unfolding(transfer::specs::Inner::Machine::queue_word))]
 pub fn word_of_queue(queue: u16, len: u16, send_stop: bool, restart: bool) -> u32
     ensures { result ≡ queue_word queue len send_stop restart }
 {
-    let left = less(queue);
+    let left = queue.saturating_sub(1);
     word_of(
         0,
         true,
         (left == 0) & send_stop,
-        restart & (left == less(len)),
+        restart & (left == len.saturating_sub(1)),
     )
 }
 
 // An async write's word for byte i.
+#[tactic(auto, unfolding(transfer::specs::Inner::Machine::fill_word))]
 pub fn word_of_fill(byte: u8, i: u16, len: u16, send_stop: bool) -> u32
     ensures { result ≡ fill_word byte i len send_stop }
 {
     word_of(byte, false, (i as u32 + 1 == len as u32) & send_stop, false)
 }
 
+#[tactic(auto, unfolding(transfer::specs::Inner::Machine::next_setup))]
 pub fn next_setup(p: SetupPoint, address: u16) -> Next
     ensures { result ≡ next_setup address p }
 {
@@ -70,6 +80,7 @@ pub fn next_setup(p: SetupPoint, address: u16) -> Next
     }
 }
 
+#[tactic(auto, unfolding(transfer::specs::Inner::Machine::next_abort))]
 pub fn next_abort(p: AbortPoint) -> Next
     ensures { result ≡ next_abort p }
 {
@@ -79,6 +90,7 @@ pub fn next_abort(p: AbortPoint) -> Next
     }
 }
 
+#[tactic(auto, unfolding(transfer::specs::Inner::Machine::next_read))]
 pub fn next_read(p: ReadPoint, len: u16, send_stop: bool, restart: bool) -> Next
     ensures { result ≡ next_read len send_stop restart p }
 {
@@ -90,6 +102,7 @@ pub fn next_read(p: ReadPoint, len: u16, send_stop: bool, restart: bool) -> Next
     }
 }
 
+#[tactic(auto, unfolding(transfer::specs::Inner::Machine::next_write))]
 pub fn next_write(p: WritePoint, bytes: &[u8], at: usize, len: u16, send_stop: bool) -> Next
     ensures { result ≡ next_write bytes.now at len send_stop p }
 {
@@ -103,6 +116,7 @@ pub fn next_write(p: WritePoint, bytes: &[u8], at: usize, len: u16, send_stop: b
     }
 }
 
+#[tactic(auto, unfolding(transfer::specs::Inner::Machine::next_round))]
 pub fn next_round(p: RoundPoint, len: u16, send_stop: bool, restart: bool) -> Next
     ensures { result ≡ next_round len send_stop restart p }
 {
@@ -117,6 +131,7 @@ pub fn next_round(p: RoundPoint, len: u16, send_stop: bool, restart: bool) -> Ne
     }
 }
 
+#[tactic(auto, unfolding(transfer::specs::Inner::Machine::next_fill))]
 pub fn next_fill(p: FillPoint, bytes: &[u8], at: usize, len: u16, send_stop: bool) -> Next
     ensures { result ≡ next_fill bytes.now at len send_stop p }
 {
@@ -130,11 +145,12 @@ pub fn next_fill(p: FillPoint, bytes: &[u8], at: usize, len: u16, send_stop: boo
     }
 }
 
+#[tactic(auto, unfolding(transfer::specs::Inner::Machine::next_wait))]
 pub fn next_wait(p: WaitPoint) -> Next
     ensures { result ≡ next_wait p }
 {
     match p {
-        WaitPoint::RxTl(round) => Next::Write(regs::RX_TL, less(round.batch) as u32),
+        WaitPoint::RxTl(round) => Next::Write(regs::RX_TL, round.batch.saturating_sub(1) as u32),
         WaitPoint::TxTl(_) => Next::Write(regs::TX_TL, 1),
         WaitPoint::Mask(_) => Next::Read(regs::INTR_MASK),
         WaitPoint::SetMask(_, w) => Next::Write(regs::INTR_MASK, w),
@@ -142,6 +158,7 @@ pub fn next_wait(p: WaitPoint) -> Next
     }
 }
 
+#[tactic(auto, unfolding(transfer::specs::Inner::Machine::next_stop))]
 pub fn next_stop(p: StopPoint) -> Next
     ensures { result ≡ next_stop p }
 {
@@ -151,6 +168,7 @@ pub fn next_stop(p: StopPoint) -> Next
     }
 }
 
+#[tactic(auto, unfolding(transfer::specs::Inner::Machine::store_read))]
 pub fn store_read(at: usize, p: ReadPoint, v: u32) -> Store
     ensures { result ≡ store_read at p v }
 {
@@ -162,6 +180,7 @@ pub fn store_read(at: usize, p: ReadPoint, v: u32) -> Store
     }
 }
 
+#[tactic(auto, unfolding(transfer::specs::Inner::Machine::store_round))]
 pub fn store_round(at: usize, len: u16, p: RoundPoint, v: u32) -> Store
     ensures { result ≡ store_round at len p v }
 {
@@ -170,7 +189,7 @@ pub fn store_round(at: usize, len: u16, p: RoundPoint, v: u32) -> Store
         RoundPoint::Queue(_, _) => None,
         RoundPoint::Level(_) => None,
         RoundPoint::Fetch(round, left) => Some((
-            sum(at, difference(difference(len, round.remaining), left)),
+            sum(at, len.saturating_sub(round.remaining).saturating_sub(left)),
             regs::fields::byte_of(v),
         )),
     }

@@ -5,15 +5,14 @@ ghost use Rattle.std.specs.Prelude.{◌≡◌};
 ghost use Rattle.master.specs.Driver.{reason_of};
 ghost use Rattle.transfer.specs.Inner.Machine.{returned, step_setup, step_abort, step_of};
 
-use regs::answers::AbortReason;
+use regs::answers::{AbortReason, Refusal};
 use regs::fields::{is_arbitration_loss, is_data_not_acknowledged, is_no_acknowledge};
-use transfer::refusals::fail;
 use transfer::{
     AbortPoint, Caller, FillPoint, Point, ReadPoint, SetupPoint, Step, Tried, WritePoint,
 };
 use transfer_after_async::{after_fill, after_round, batch_read};
 use transfer_after_blocking::{after_read, after_write, byte_written};
-use transfer_after_waits::{after_stop, after_wait, stop_polled, stop_quiet, wait_for_stop};
+use transfer_after_waits::{after_stop, after_wait, stop_polled, wait_for_stop};
 
 fn reason(w: u32) -> AbortReason
     ensures { result ≡ reason_of w }
@@ -29,72 +28,59 @@ fn reason(w: u32) -> AbortReason
     }
 }
 
-// `read_and_clear_abort_reason` returns to its caller: no abort.
-fn returns_fine(len: u16, send_stop: bool, caller: Caller) -> Step
-    ensures { result ≡ returned len send_stop caller Tried.Fine }
+// `read_and_clear_abort_reason` returns to its caller.
+#[tactic(auto, unfolding(transfer::specs::Inner::Machine::returned))]
+fn return_to(len: u16, send_stop: bool, caller: Caller, abort: Tried) -> Step
+    ensures { result ≡ returned len send_stop caller abort }
 {
-    match caller {
-        Caller::Read(i) => Step::Go(Point::ReadBlocking(ReadPoint::Level(i))),
-        Caller::Write(i) => byte_written(len, send_stop, i),
-        Caller::Batch(round, rxfifo) => batch_read(send_stop, round, rxfifo),
-        Caller::Space(i) => Step::Go(Point::WriteAsync(FillPoint::Full(i))),
-        Caller::Stop(had) => stop_quiet(had),
+    match (caller, abort) {
+        (Caller::Read(i), Ok(())) => Ok(Some(Point::ReadBlocking(ReadPoint::Level(i)))),
+        (Caller::Read(_), Err(r)) => Err(Refusal::Abort(r)),
+        (Caller::Write(i), Ok(())) => Ok(byte_written(len, send_stop, i)),
+        (Caller::Write(_), Err(_)) => Ok(Some(Point::WriteBlocking(WritePoint::StopDet(abort)))),
+        (Caller::Batch(round, rxfifo), Ok(())) => Ok(batch_read(send_stop, round, rxfifo)),
+        (Caller::Space(i), Ok(())) => Ok(Some(Point::WriteAsync(FillPoint::Full(i)))),
+        (Caller::Batch(..) | Caller::Space(_), Err(_)) => Ok(wait_for_stop(send_stop, abort)),
+        (Caller::Stop(had), _) => Ok(Some(stop_polled(had, abort))),
     }
 }
 
-// An abort.
-fn returns_failed(len: u16, send_stop: bool, caller: Caller, r: AbortReason) -> Step
-    ensures { result ≡ returned len send_stop caller (Tried.Failed r) }
-{
-    match caller {
-        Caller::Read(_) => fail(r),
-        Caller::Write(_) => {
-            Step::Go(Point::WriteBlocking(WritePoint::StopDet(Tried::Failed(r))))
-        }
-        Caller::Batch(_, _) => wait_for_stop(send_stop, Tried::Failed(r)),
-        Caller::Space(_) => wait_for_stop(send_stop, Tried::Failed(r)),
-        Caller::Stop(had) => stop_polled(had, r),
-    }
-}
-
-fn after_setup(p: SetupPoint) -> Step
-    ensures { result ≡ step_setup p }
+#[tactic(auto, unfolding(transfer::specs::Inner::Machine::step_setup))]
+fn after_setup(p: SetupPoint) -> Option<Point>
+    ensures { step_setup p ≡ Ok result }
 {
     match p {
-        SetupPoint::Disable => Step::Go(Point::Setup(SetupPoint::Target)),
-        SetupPoint::Target => Step::Go(Point::Setup(SetupPoint::Enable)),
-        SetupPoint::Enable => Step::Done,
+        SetupPoint::Disable => Some(Point::Setup(SetupPoint::Target)),
+        SetupPoint::Target => Some(Point::Setup(SetupPoint::Enable)),
+        SetupPoint::Enable => None,
     }
 }
 
+#[tactic(auto, unfolding(transfer::specs::Inner::Machine::step_abort))]
 fn after_abort(len: u16, send_stop: bool, caller: Caller, p: AbortPoint, v: u32) -> Step
     ensures { result ≡ step_abort len send_stop caller p v }
 {
     match p {
-        AbortPoint::Source => {
-            if v == 0 {
-                returns_fine(len, send_stop, caller)
-            } else {
-                Step::Go(Point::Abort(AbortPoint::Clear(v), caller))
-            }
-        }
-        AbortPoint::Clear(w) => returns_failed(len, send_stop, caller, reason(w)),
+        AbortPoint::Source if v == 0 => return_to(len, send_stop, caller, Ok(())),
+        AbortPoint::Source => Ok(Some(Point::Abort(AbortPoint::Clear(v), caller))),
+        AbortPoint::Clear(w) => return_to(len, send_stop, caller, Err(reason(w))),
     }
 }
 
 // What the Rust does from an access, which read v, up to the next one.
+#[tactic(auto, unfolding(transfer::specs::Inner::Machine::step_of))]
 pub fn step_of(len: u16, send_stop: bool, p: Point, v: u32) -> Step
     ensures { result ≡ step_of len send_stop p v }
 {
     match p {
-        Point::Setup(s) => after_setup(s),
+        Point::Setup(s) => Ok(after_setup(s)),
         Point::Abort(a, caller) => after_abort(len, send_stop, caller, a, v),
         Point::ReadBlocking(b) => after_read(len, b, v),
-        Point::WriteBlocking(w) => after_write(w, v),
+        Point::WriteBlocking(w) => Ok(Some(after_write(w, v))),
         Point::ReadAsync(q) => after_round(send_stop, q, v),
         Point::WriteAsync(f) => after_fill(len, send_stop, f, v),
-        Point::Wait(m) => after_wait(m, v),
+        Point::Wait(m) => Ok(Some(after_wait(m, v))),
         Point::Stop(s) => after_stop(s, v),
-        Point::Finished(a) => Step::Go(Point::Finished(a)),
+        Point::Finished(_) => Ok(Some(p)),
     }
 }

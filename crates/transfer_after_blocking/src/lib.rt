@@ -1,103 +1,103 @@
 // Where a reading leads in the blocking reads and writes, which go byte by byte.
 #![tactic(auto)]
 
-ghost use Rattle.std.specs.Prelude.{◌≡◌};
-ghost use Rattle.transfer.specs.Inner.Machine.{closes, returned, room_step, level_step, step_read};
+ghost use Rattle.std.specs.Prelude.{◌≡◌, ◌+◌, ltb, if◌then◌else◌};
+ghost use Rattle.transfer.specs.Inner.Machine.{closes, returned, level_step, step_read};
 ghost use Rattle.transfer.specs.Inner.Machine.{step_write};
 
 use regs::fields::{has_stop_det, has_tx_empty, level_of};
-use transfer::counts::{Capacity, capacity_of, less};
-use transfer::refusals::too_high;
-use transfer::{AbortPoint, Caller, Point, ReadPoint, Step, StopPoint, Tried, WritePoint};
+use transfer::counts::capacity_of;
+use transfer::{AbortPoint, Caller, Point, ReadPoint, Step, StopPoint, WritePoint};
 
 // STOP rides on byte i.
+#[tactic(auto, unfolding(transfer::specs::Inner::Machine::closes))]
 fn is_closing(len: u16, send_stop: bool, i: u16) -> bool
     ensures { result ≡ closes len send_stop i }
 {
-    send_stop & (i == less(len))
+    send_stop & (i == len.saturating_sub(1))
+}
+
+// The byte after byte i, if there is one.
+fn next_byte(len: u16, i: u16) -> Option<u16>
+    ensures { result ≡ (if ltb (i + 1) len then Some (i + 1) else None) }
+{
+    let next = i.saturating_add(1);
+    if next < len { Some(next) } else { None }
 }
 
 // A byte that was written without an abort.
-pub fn byte_written(len: u16, send_stop: bool, i: u16) -> Step
-    ensures { result ≡ returned len send_stop (Caller.Write i) Tried.Fine }
+#[tactic(auto, unfolding(transfer::specs::Inner::Machine::returned))]
+pub fn byte_written(len: u16, send_stop: bool, i: u16) -> Option<Point>
+    ensures { returned len send_stop (Caller.Write i) (Ok tt) ≡ Ok result }
 {
     if is_closing(len, send_stop, i) {
-        return Step::Go(Point::WriteBlocking(WritePoint::StopDet(Tried::Fine)));
+        return Some(Point::WriteBlocking(WritePoint::StopDet(Ok(()))));
     }
-    if i < len {
-        if i + 1 < len {
-            return Step::Go(Point::WriteBlocking(WritePoint::Send(i + 1)));
-        }
-        return Step::Done;
-    }
-    Step::Done
+    let next = next_byte(len, i)?;
+    Some(Point::WriteBlocking(WritePoint::Send(next)))
 }
 
-fn after_room(i: u16, c: Capacity) -> Step
-    ensures { result ≡ room_step i c }
+#[tactic(auto, unfolding(transfer::specs::Inner::Machine::step_read))]
+fn byte_taken(len: u16, i: u16) -> Option<Point>
+    ensures { step_read len (ReadPoint.Take i) 0 ≡ Ok result }
 {
-    match c {
-        Capacity::TooHigh(n) => too_high(n),
-        Capacity::Places(n) => {
-            if n == 0 {
-                Step::Go(Point::ReadBlocking(ReadPoint::Room(i)))
-            } else {
-                Step::Go(Point::ReadBlocking(ReadPoint::Ask(i)))
-            }
-        }
-    }
+    let next = next_byte(len, i)?;
+    Some(Point::ReadBlocking(ReadPoint::Room(next)))
 }
 
-fn byte_taken(len: u16, i: u16) -> Step
-    ensures { result ≡ step_read len (ReadPoint.Take i) 0 }
+#[tactic(auto, unfolding(transfer::specs::Inner::Machine::step_read, transfer::specs::Inner::Machine::room_step))]
+fn after_room(i: u16, v: u32) -> Step
+    ensures { result ≡ step_read 0 (ReadPoint.Room i) v }
 {
-    if i < len {
-        if i + 1 < len {
-            return Step::Go(Point::ReadBlocking(ReadPoint::Room(i + 1)));
-        }
-        return Step::Done;
-    }
-    Step::Done
+    let point = if capacity_of(v)? == 0 {
+        ReadPoint::Room(i)
+    } else {
+        ReadPoint::Ask(i)
+    };
+    Ok(Some(Point::ReadBlocking(point)))
 }
 
-fn after_level(i: u16, n: u8) -> Step
-    ensures { result ≡ level_step i n }
+#[tactic(auto, unfolding(transfer::specs::Inner::Machine::level_step))]
+fn after_level(i: u16, n: u8) -> Point
+    ensures { level_step i n ≡ Ok (Some result) }
 {
     if n == 0 {
-        Step::Go(Point::Abort(AbortPoint::Source, Caller::Read(i)))
+        Point::Abort(AbortPoint::Source, Caller::Read(i))
     } else {
-        Step::Go(Point::ReadBlocking(ReadPoint::Take(i)))
+        Point::ReadBlocking(ReadPoint::Take(i))
     }
 }
 
+#[tactic(auto, unfolding(transfer::specs::Inner::Machine::step_read))]
 pub fn after_read(len: u16, p: ReadPoint, v: u32) -> Step
     ensures { result ≡ step_read len p v }
 {
     match p {
-        ReadPoint::Room(i) => after_room(i, capacity_of(v)),
-        ReadPoint::Ask(i) => Step::Go(Point::ReadBlocking(ReadPoint::Level(i))),
-        ReadPoint::Level(i) => after_level(i, level_of(v)),
-        ReadPoint::Take(i) => byte_taken(len, i),
+        ReadPoint::Room(i) => after_room(i, v),
+        ReadPoint::Ask(i) => Ok(Some(Point::ReadBlocking(ReadPoint::Level(i)))),
+        ReadPoint::Level(i) => Ok(Some(after_level(i, level_of(v)))),
+        ReadPoint::Take(i) => Ok(byte_taken(len, i)),
     }
 }
 
-pub fn after_write(p: WritePoint, v: u32) -> Step
-    ensures { result ≡ step_write p v }
+#[tactic(auto, unfolding(transfer::specs::Inner::Machine::step_write))]
+pub fn after_write(p: WritePoint, v: u32) -> Point
+    ensures { step_write p v ≡ Ok (Some result) }
 {
     match p {
-        WritePoint::Send(i) => Step::Go(Point::WriteBlocking(WritePoint::Empty(i))),
+        WritePoint::Send(i) => Point::WriteBlocking(WritePoint::Empty(i)),
         WritePoint::Empty(i) => {
             if has_tx_empty(v) {
-                Step::Go(Point::Abort(AbortPoint::Source, Caller::Write(i)))
+                Point::Abort(AbortPoint::Source, Caller::Write(i))
             } else {
-                Step::Go(Point::WriteBlocking(WritePoint::Empty(i)))
+                Point::WriteBlocking(p)
             }
         }
         WritePoint::StopDet(r) => {
             if has_stop_det(v) {
-                Step::Go(Point::Stop(StopPoint::Clear(r)))
+                Point::Stop(StopPoint::Clear(r))
             } else {
-                Step::Go(Point::WriteBlocking(WritePoint::StopDet(r)))
+                Point::WriteBlocking(p)
             }
         }
     }

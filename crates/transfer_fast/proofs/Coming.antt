@@ -12,8 +12,7 @@ use Rattle.transfer.specs.declared.Point.TheVariants.{ReadAsync, WriteAsync}
 use Rattle.transfer.specs.declared.FillPoint.TheVariants.{Free}
 use Rattle.transfer.specs.declared.Round.{Round}
 use Rattle.transfer.specs.declared.RoundPoint.TheVariants.{Capacity}
-use Rattle.transfer.specs.declared.Step.{Step}
-use Rattle.transfer.specs.declared.Step.TheVariants.{Go}
+use Rattle.transfer.specs.Inner.Machine.{StepTaken, go}
 use Rattle.regs_runs.specs.Inner.Reaches.{Reaches}
 use Rattle.regs_runs.proofs.Reach.{stays, then}
 use Rattle.transfer_fast_blocking.specs.Inner.Bursts.{Bursts}
@@ -27,7 +26,7 @@ at_its_point : (t : Transfer) {p : Point} → t.point ≡ p → with_point t p �
 at_its_point t e = ap (with_point t) (sym e)
 
 module _ {bytes readings log buffer : List ℕ} {t : Transfer} {used entries : ℕ} {r : Ahead} where
-  pub not_ahead : (r.step ≡ Go t.point) × (r.used ≡ used) × (r.entries ≡ entries) → entries ≤ length log / 2 → length log < 2 ^ 64
+  pub not_ahead : (r.step ≡ go t.point) × (r.used ≡ used) × (r.entries ≡ entries) → entries ≤ length log / 2 → length log < 2 ^ 64
       → GoesAhead bytes readings log buffer log buffer t used entries r
   not_ahead is room fits = record {
     reaches = λ coded kinds lengths. rw (is.0, is.1, is.2)
@@ -36,8 +35,8 @@ module _ {bytes readings log buffer : List ℕ} {t : Transfer} {used entries : �
 
   -- a burst, and then polls
   pub then_polls : {log₁ log₂ buffer₁ : List ℕ} {a : Ahead} {p : Point} {e₂ u₂ : ℕ}
-      → GoesAhead bytes readings log buffer log₁ buffer₁ t used entries a → a.step ≡ Go p
-      → Stays p readings a.entries a.used log₁ e₂ u₂ log₂ → (r.step ≡ Go p) × (r.used ≡ u₂) × (r.entries ≡ e₂)
+      → GoesAhead bytes readings log buffer log₁ buffer₁ t used entries a → a.step ≡ go p
+      → Stays p readings a.entries a.used log₁ e₂ u₂ log₂ → (r.step ≡ go p) × (r.used ≡ u₂) × (r.entries ≡ e₂)
       → GoesAhead bytes readings log buffer log₂ buffer₁ t used entries r
   then_polls {buffer₁ = buffer₁} g at s is =
       record {
@@ -45,7 +44,7 @@ module _ {bytes readings log buffer : List ℕ} {t : Transfer} {used entries : �
             (then (rw at at (g.reaches coded kinds lengths)) (s.reaches coded kinds lengths bytes t buffer₁));
       }
 
-  module _ {log' buffer' : List ℕ} {p : Point} {x : Step} {e' u' : ℕ} (at : t.point ≡ p)
+  module _ {log' buffer' : List ℕ} {p : Point} {x : StepTaken} {e' u' : ℕ} (at : t.point ≡ p)
       (is : (r.step ≡ x) × (r.used ≡ u') × (r.entries ≡ e')) where
     came : ((coded : Bool) (kinds lengths : List ℕ) → Reaches (machine coded kinds lengths bytes) readings (with_point t p) entries used log buffer
         (moved_to coded kinds lengths t x) e' u' log' buffer')
@@ -54,20 +53,20 @@ module _ {bytes readings log buffer : List ℕ} {t : Transfer} {used entries : �
 
   module _ {log' : List ℕ} {e' u' : ℕ} where
     -- byte after byte
-    pub burst_ahead : {buffer' : List ℕ} {p p' : Point} → t.point ≡ p → (r.step ≡ Go p') × (r.used ≡ u') × (r.entries ≡ e')
+    pub burst_ahead : {buffer' : List ℕ} {p p' : Point} → t.point ≡ p → (r.step ≡ go p') × (r.used ≡ u') × (r.entries ≡ e')
         → Bursts t.len t.at t.restart bytes readings p entries used log buffer p' e' u' log' buffer'
         → GoesAhead bytes readings log buffer log' buffer' t used entries r
     burst_ahead at is b = came at is (λ coded kinds lengths. b.reaches coded kinds lengths t refl refl refl)
 
     -- rounds of an async read
     pub rounds_ahead : {buffer' : List ℕ} {x x' : Round} → t.point ≡ ReadAsync (Capacity x)
-        → (r.step ≡ Go (ReadAsync (Capacity x'))) × (r.used ≡ u') × (r.entries ≡ e')
+        → (r.step ≡ go (ReadAsync (Capacity x'))) × (r.used ≡ u') × (r.entries ≡ e')
         → Rounds t.len t.at t.send_stop t.restart readings x entries used log buffer x' e' u' log' buffer'
         → GoesAhead bytes readings log buffer log' buffer' t used entries r
     rounds_ahead at is b = came at is (λ coded kinds lengths. b.reaches coded kinds lengths bytes t refl refl refl refl)
 
     -- rounds of an async write, which may end the operation
-    pub fills_ahead : {i : ℕ} {x : Step} → t.point ≡ WriteAsync (Free i) → (r.step ≡ x) × (r.used ≡ u') × (r.entries ≡ e')
+    pub fills_ahead : {i : ℕ} {x : StepTaken} → t.point ≡ WriteAsync (Free i) → (r.step ≡ x) × (r.used ≡ u') × (r.entries ≡ e')
         → Fills t.len t.at t.send_stop bytes readings i entries used log x e' u' log'
         → GoesAhead bytes readings log buffer log' buffer t used entries r
     fills_ahead at is b = came at is (λ coded kinds lengths. b.reaches coded kinds lengths t buffer refl refl refl)

@@ -48,7 +48,7 @@ fn read_from(
         i, t.len, t.at, t.restart, readings, used, log, entries, buffer,
     );
     came(
-        Step::Go(Point::ReadBlocking(ReadPoint::Room(b.index))),
+        Ok(Some(Point::ReadBlocking(ReadPoint::Room(b.index)))),
         b.used,
         b.entries,
     )
@@ -74,7 +74,7 @@ fn write_from(
         i, t.len, t.at, bytes, readings, used, log, entries,
     );
     came(
-        Step::Go(Point::WriteBlocking(WritePoint::Send(b.index))),
+        Ok(Some(Point::WriteBlocking(WritePoint::Send(b.index)))),
         b.used,
         b.entries,
     )
@@ -116,7 +116,7 @@ fn rounds_from(
         batch: c.batch,
     };
     came(
-        Step::Go(Point::ReadAsync(RoundPoint::Capacity(next))),
+        Ok(Some(Point::ReadAsync(RoundPoint::Capacity(next)))),
         c.used,
         c.entries,
     )
@@ -171,23 +171,23 @@ fn burst_from(
     match p {
         Point::ReadBlocking(r) => match r {
             ReadPoint::Room(i) => read_from(t, i, readings, used, log, entries, buffer),
-            _ => came(Step::Go(p), used, entries),
+            _ => came(Ok(Some(p)), used, entries),
         },
         Point::WriteBlocking(w) => match w {
             WritePoint::Send(i) => write_from(t, i, bytes, readings, used, log, entries),
-            _ => came(Step::Go(p), used, entries),
+            _ => came(Ok(Some(p)), used, entries),
         },
         Point::ReadAsync(q) => match q {
             RoundPoint::Capacity(round) => rounds_from(
                 t, round, readings, used, log, entries, buffer,
             ),
-            _ => came(Step::Go(p), used, entries),
+            _ => came(Ok(Some(p)), used, entries),
         },
         Point::WriteAsync(f) => match f {
             FillPoint::Free(i) => fills_from(t, i, bytes, readings, used, log, entries),
-            _ => came(Step::Go(p), used, entries),
+            _ => came(Ok(Some(p)), used, entries),
         },
-        _ => came(Step::Go(p), used, entries),
+        _ => came(Ok(Some(p)), used, entries),
     }
 }
 
@@ -207,12 +207,14 @@ pub fn ahead_from(
         buffer.old log.new buffer.new t used entries result }
 {
     let a = burst_from(t, bytes, readings, used, log, entries, buffer);
-    let step = a.step;
-    match step {
-        Step::Go(p) => {
-            let c = transfer_fast_polls::polls(p, readings, a.used, log, a.entries);
-            came(step, c.used, c.entries)
-        }
-        Step::Done => a,
+    match a.step {
+        Ok(reached) => match reached {
+            Some(p) => {
+                let c = transfer_fast_polls::polls(p, readings, a.used, log, a.entries);
+                came(Ok(Some(p)), c.used, c.entries)
+            }
+            None => a,
+        },
+        Err(_) => a,
     }
 }

@@ -10,7 +10,7 @@ use Rattle.regs.specs.Inner.Machine.{entered}
 use Rattle.transfer.specs.Inner.Points.{with_point}
 use Rattle.transfer.specs.Inner.Machine.{machine, next_at, next_write, store_at, step_of, step_write}
 use Rattle.transfer.specs.declared.Transfer.{Transfer}
-use Rattle.transfer.specs.declared.Tried.{Tried}
+use Rattle.transfer.specs.Inner.Points.{Tried}
 use Rattle.transfer.specs.declared.Point.{Point}
 use Rattle.transfer.specs.declared.Point.TheVariants.{WriteBlocking}
 use Rattle.transfer.specs.declared.WritePoint.TheVariants.{Empty, StopDet}

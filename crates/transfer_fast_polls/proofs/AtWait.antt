@@ -28,7 +28,7 @@ use Rattle.transfer.specs.declared.AbortPoint.TheVariants.{Source}
 use Rattle.transfer.specs.declared.Caller.TheVariants as C
 use Rattle.transfer.specs.declared.WaitPoint.TheVariants.{RxTl, TxTl, Mask, SetMask, Pending}
 use Rattle.transfer.specs.declared.StopPoint.TheVariants.{Stat}
-use Rattle.transfer.specs.declared.Tried.TheVariants.{Fine}
+use Rattle.std.specs.Prelude.{Ok}
 use Rattle.regs_runs.specs.Inner.Reaches.{Reaches}
 use Rattle.regs_runs.proofs.Reach.{did_read, did_write, did_mark}
 use Rattle.transfer_fast_polls.specs.Inner.Stays.{too_few, no_place, no_stop}
@@ -114,10 +114,10 @@ module _ (coded : Bool) (kinds lengths bytes : List ℕ) {readings : List ℕ} (
       rw (q₆, v₃) at (masked coded kinds lengths bytes t (O.Space i) g₃ (omega (arith, room)) (omega (arith, left)))
 
   pub stop_waits : Reaches (machine coded kinds lengths bytes) readings s₀ e₀ u₀ l₀ b₀
-      (with_point t (Abort Source (C.Stop Fine))) e u l b
+      (with_point t (Abort Source (C.Stop (Ok tt)))) e u l b
       → no_stop (get_or readings u 0) (get_or readings (u + 1) 0) ≡ true
       → e + 5 ≤ length l₀ / 2 → u + 3 ≤ length readings
-      → Reaches (machine coded kinds lengths bytes) readings s₀ e₀ u₀ l₀ b₀ (with_point t (Abort Source (C.Stop Fine))) (e + 5) (u + 3)
+      → Reaches (machine coded kinds lengths bytes) readings s₀ e₀ u₀ l₀ b₀ (with_point t (Abort Source (C.Stop (Ok tt)))) (e + 5) (u + 3)
       (waited (entered (entered l e (0x100 + TX_ABRT_SOURCE) (get_or readings u 0)) (e + 1) (0x100 + RAW_INTR_STAT)
       (get_or readings (u + 1) 0)) (e + 2) (get_or readings (u + 2) 0)
       (set_m_tx_abrt (set_m_stop_det (get_or readings (u + 2) 0)))) b
@@ -126,15 +126,15 @@ module _ (coded : Bool) (kinds lengths bytes : List ℕ) {readings : List ℕ} (
   stop_waits g going room left =
       let M = machine coded kinds lengths bytes in
       let both = both_of (eqb (get_or readings u 0) 0) (not (stop_det (get_or readings (u + 1) 0))) going in
-      let a₁ : M.advance (with_point t (Abort Source (C.Stop Fine))) (get_or readings u 0)
-      ≡ with_point t (P.Stop (Stat Fine)) = rw both.0 in
+      let a₁ : M.advance (with_point t (Abort Source (C.Stop (Ok tt)))) (get_or readings u 0)
+      ≡ with_point t (P.Stop (Stat (Ok tt))) = rw both.0 in
       let g₁ = did_read g refl (omega (arith, room)) (omega (arith, left)) a₁ refl refl in
       let q₂ : e + 2 ≡ e + 1 + 1 = omega arith in
       let v₂ : u + 2 ≡ u + 1 + 1 = omega arith in
-      let a₂ : M.advance (with_point t (P.Stop (Stat Fine))) (get_or readings (u + 1) 0)
-      ≡ with_point t (Wait (Mask (O.Stop Fine))) =
+      let a₂ : M.advance (with_point t (P.Stop (Stat (Ok tt)))) (get_or readings (u + 1) 0)
+      ≡ with_point t (Wait (Mask (O.Stop (Ok tt)))) =
       rw (not-true (stop_det (get_or readings (u + 1) 0)) both.1) in
       let g₂ = did_read g₁ refl (omega (arith, room)) (omega (arith, left)) a₂ q₂ v₂ in
       let q₅ : e + 2 + 3 ≡ e + 5 = omega arith in
       let v₃ : u + 2 + 1 ≡ u + 3 = omega arith in
-      rw (q₅, v₃) at (masked coded kinds lengths bytes t (O.Stop Fine) g₂ (omega (arith, room)) (omega (arith, left)))
+      rw (q₅, v₃) at (masked coded kinds lengths bytes t (O.Stop (Ok tt)) g₂ (omega (arith, room)) (omega (arith, left)))

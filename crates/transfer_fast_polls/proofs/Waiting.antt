@@ -14,7 +14,7 @@ use Rattle.transfer.specs.declared.Point.TheVariants.{Abort, ReadAsync}
 use Rattle.transfer.specs.declared.RoundPoint.TheVariants.{Level}
 use Rattle.transfer.specs.declared.AbortPoint.TheVariants.{Source}
 use Rattle.transfer.specs.declared.Caller.TheVariants.{Space, Stop}
-use Rattle.transfer.specs.declared.Tried.TheVariants.{Fine}
+use Rattle.std.specs.Prelude.{Ok}
 use Rattle.regs_runs.proofs.Reach.{stays}
 use Rattle.regs_runs.proofs.Turns.{Polls, poll}
 use Rattle.transfer_fast_blocking.specs.Inner.Bursts.{ForAny}
@@ -102,7 +102,7 @@ space_next {readings} {used} {l₀} {entries} {l} {n} {u} {k} g more few e₁ e�
 -- ---- no STOP yet
 
 abbrev pub StopCame : List ℕ → ℕ → List ℕ → ℕ → ℕ → ℕ → List ℕ → Type 0
-StopCame readings used l₀ entries u k l = Stays (Abort Source (Stop Fine)) readings entries used l₀ k u l
+StopCame readings used l₀ entries u k l = Stays (Abort Source (Stop (Ok tt))) readings entries used l₀ k u l
 
 abbrev pub StopWaiting : List ℕ → ℕ → List ℕ → ℕ → List ℕ → ℕ → ℕ → ℕ → Type 0
 StopWaiting readings used l₀ entries l n u k = Polls (StopCame readings used l₀ entries) 5 3 readings l₀ l n u k

@@ -8,7 +8,7 @@ pub mod wait; // the async forms' waits
 ghost use Rattle.std.specs.Prelude.{◌≡◌, ◌/◌, ◌≤◌, length};
 ghost use Rattle.transfer_fast_polls.specs.Inner.Stays.{Stays};
 
-use transfer::{AbortPoint, Caller, Point, ReadPoint, RoundPoint, Tried, WritePoint};
+use transfer::{AbortPoint, Caller, Point, ReadPoint, RoundPoint, WritePoint};
 
 // How far the polls came: the readings used and the entries in the log.
 #[derive(Clone, Copy)]
@@ -41,8 +41,8 @@ fn before_source(
     match caller {
         Caller::Space(_) => wait::space(readings, used, log, entries),
         Caller::Stop(had) => match had {
-            Tried::Fine => wait::stop(readings, used, log, entries),
-            Tried::Failed(_) => none(used, entries),
+            Ok(()) => wait::stop(readings, used, log, entries),
+            Err(_) => none(used, entries),
         },
         _ => none(used, entries),
     }

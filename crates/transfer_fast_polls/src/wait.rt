@@ -9,7 +9,6 @@ ghost use Rattle.transfer.specs.declared.Point.TheVariants.{Abort, ReadAsync};
 ghost use Rattle.transfer.specs.declared.RoundPoint.TheVariants.{Level};
 ghost use Rattle.transfer.specs.declared.AbortPoint.TheVariants.{Source};
 ghost use Rattle.transfer.specs.declared.Caller.TheVariants.{Space, Stop};
-ghost use Rattle.transfer.specs.declared.Tried.TheVariants.{Fine};
 ghost use Rattle.transfer_fast_blocking.specs.Inner.Bursts.{ForAny};
 ghost use Rattle.transfer_fast_polls.specs.Inner.Stays.{Stays, too_few, no_place, no_stop};
 
@@ -19,7 +18,6 @@ use regs::fields::{
     has_stop_det, level_of, with_m_rx_full, with_m_stop_det, with_m_tx_abrt, with_m_tx_empty,
 };
 use regs_runs::{put_mark, put_read, put_write};
-use transfer::counts::less;
 
 // INTR_MASK, read and set, and the mark: three entries.
 fn put_wait(log: &mut [u32], k: usize, mask: u32, set: u32)
@@ -59,7 +57,7 @@ pub fn batch(batch: u16, readings: &[u32], used: usize, log: &mut [u32], entries
             let mask = readings[u + 2];
             put_read(log, k, regs::RXFLR, first);
             put_read(log, k + 1, regs::TX_ABRT_SOURCE, second);
-            put_write(log, k + 2, regs::RX_TL, less(batch) as u32);
+            put_write(log, k + 2, regs::RX_TL, batch.saturating_sub(1) as u32);
             put_wait(log, k + 3, mask, with_m_tx_abrt(with_m_rx_full(mask)));
             u += 3;
             k += 6;
@@ -124,7 +122,7 @@ fn is_going(source: u32, stat: u32) -> bool
 // No STOP yet.
 pub fn stop(readings: &[u32], used: usize, log: &mut [u32], entries: usize) -> Polled
     requires { entries ≤ length log.old / 2 }
-    ensures { Stays (Abort Source (Stop Fine)) readings.now entries used log.old
+    ensures { Stays (Abort Source (Stop (Ok tt))) readings.now entries used log.old
         result.entries result.used log.new }
 {
     if used > readings.len() {

@@ -8,9 +8,9 @@ use Rattle.transfer.specs.Inner.Points.{with_point}
 use Rattle.transfer.specs.Inner.Machine.{moved_to}
 use Rattle.transfer.specs.declared.Transfer.{Transfer}
 use Rattle.transfer.specs.declared.Point.{Point}
-use Rattle.transfer.specs.declared.Step.TheVariants.{Go}
+use Rattle.transfer.specs.Inner.Machine.{go}
 
 pub chosen : (coded : Bool) (kinds lengths : List ℕ) (t : Transfer) (z : Bool) (p q : Point)
-    → moved_to coded kinds lengths t (if z then Go p else Go q) ≡ with_point t (if z then p else q)
+    → moved_to coded kinds lengths t (if z then go p else go q) ≡ with_point t (if z then p else q)
 chosen coded kinds lengths t true p q = refl
 chosen coded kinds lengths t false p q = refl

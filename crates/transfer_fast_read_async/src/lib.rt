@@ -10,7 +10,6 @@ ghost use Rattle.transfer_fast_read_async.specs.Inner.Rounds.{StraightRound, Rou
 
 use regs::fields::{byte_of, level_of};
 use regs_runs::{put_read, put_write};
-use transfer::counts::smaller;
 use transfer_access::words::word_of_queue;
 use transfer_fast_blocking::{free, is_within};
 
@@ -124,8 +123,8 @@ fn planned(
     if left >= 3 {
         let filled = level_of(readings[used + 1]) as u16;
         let p = Plan {
-            words: smaller(queue, free(readings[used])),
-            count: smaller(filled, remaining),
+            words: queue.min(free(readings[used])),
+            count: filled.min(remaining),
         };
         let source = readings[used + 2];
         if is_straight(p, filled, source, remaining, left, room - entries) {

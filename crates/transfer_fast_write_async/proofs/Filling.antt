@@ -14,24 +14,24 @@ use Rattle.transfer.specs.Inner.Points.{with_point}
 use Rattle.transfer.specs.Inner.Machine.{machine, moved_to, begun, opened, opened_read, opened_write, next_at}
 use Rattle.transfer.specs.Inner.Machine.{next_fill, fill_word, store_at, step_of, step_fill, filling, wait_stop, after_index}
 use Rattle.transfer.specs.declared.Transfer.{Transfer}
-use Rattle.transfer.specs.declared.Step.{Step}
-use Rattle.transfer.specs.declared.Step.TheVariants.{Go, Done}
+use Rattle.transfer.specs.Inner.Machine.{StepTaken, go}
+use Rattle.std.specs.Prelude.{Some, None, Ok, Err}
 use Rattle.transfer.specs.declared.Point.{Point}
 use Rattle.transfer.specs.declared.Point.TheVariants.{WriteAsync, Abort}
 use Rattle.transfer.specs.declared.FillPoint.TheVariants.{Fill}
 use Rattle.transfer.specs.declared.AbortPoint.TheVariants.{Source}
 use Rattle.transfer.specs.declared.Caller.TheVariants.{Space}
-use Rattle.transfer.specs.declared.Tried.TheVariants.{Fine}
 use Rattle.regs_runs.specs.Inner.Reaches.{Reaches}
 use Rattle.regs_runs.proofs.Reach.{did_write}
 use Rattle.transfer_fast_write_async.specs.Inner.Fills.{Polls}
 
 -- where a step leads does not depend on the point that it is made from
-pub from_any_point : (coded : Bool) (kinds lengths : List ℕ) (t : Transfer) (p : Point) (s : Step)
+pub from_any_point : (coded : Bool) (kinds lengths : List ℕ) (t : Transfer) (p : Point) (s : StepTaken)
     → moved_to coded kinds lengths (with_point t p) s ≡ moved_to coded kinds lengths t s
 unfolding begun opened opened_read opened_write
-from_any_point coded kinds lengths t p (Go q) = refl
-from_any_point coded kinds lengths t p Done = refl
+from_any_point coded kinds lengths t p (Ok (Some q)) = refl
+from_any_point coded kinds lengths t p (Ok None) = refl
+from_any_point coded kinds lengths t p (Err r) = refl
 
 module _ (coded : Bool) (kinds lengths bytes : List ℕ) {readings : List ℕ} (t : Transfer) {s₀ : Transfer} {e₀ u₀ : ℕ} {l₀ b₀ : List ℕ} (i left : ℕ)
     {e u : ℕ} {l b : List ℕ} where
@@ -53,12 +53,12 @@ module _ (coded : Bool) (kinds lengths bytes : List ℕ) {readings : List ℕ} (
       did_write at {r = DATA_CMD} {x = fill_word (get_or bytes (t.at + i) 0) i t.len t.send_stop} refl room next refl
 
 -- no place is left: TX_ABRT_SOURCE is next
-pub no_place : (len : ℕ) (send_stop : Bool) (i : ℕ) → filling len send_stop i 0 ≡ Go (Abort Source (Space i))
+pub no_place : (len : ℕ) (send_stop : Bool) (i : ℕ) → filling len send_stop i 0 ≡ go (Abort Source (Space i))
 unfolding filling
 no_place len send_stop i = refl
 
 -- a place is left and no byte: the operation ends
-pub no_byte : (len : ℕ) (send_stop : Bool) (i left : ℕ) → i ≡ len → 0 < left → filling len send_stop i left ≡ wait_stop send_stop Fine
+pub no_byte : (len : ℕ) (send_stop : Bool) (i left : ℕ) → i ≡ len → 0 < left → filling len send_stop i left ≡ wait_stop send_stop (Ok tt)
 unfolding filling
 no_byte len send_stop i left ended some = rw (ne_eqb left 0 (λ (z : left ≡ 0). omega (arith, some, z)), le-ltb i len (omega (arith, ended)))
 

@@ -15,13 +15,12 @@ use Rattle.transfer.specs.Inner.Points.{with_point}
 use Rattle.transfer.specs.Inner.Machine.{machine, moved_to, next_at, next_fill, next_abort, store_at, step_of}
 use Rattle.transfer.specs.Inner.Machine.{step_fill, step_abort, free_step, full_step, places, filling, wait_stop, returned}
 use Rattle.transfer.specs.declared.Transfer.{Transfer}
-use Rattle.transfer.specs.declared.Step.{Step}
-use Rattle.transfer.specs.declared.Step.TheVariants.{Go}
+use Rattle.transfer.specs.Inner.Machine.{StepTaken, go}
+use Rattle.std.specs.Prelude.{Ok}
 use Rattle.transfer.specs.declared.Point.TheVariants.{WriteAsync, Abort}
 use Rattle.transfer.specs.declared.FillPoint.TheVariants.{Free, Full}
 use Rattle.transfer.specs.declared.AbortPoint.TheVariants.{Source}
 use Rattle.transfer.specs.declared.Caller.TheVariants.{Space}
-use Rattle.transfer.specs.declared.Tried.TheVariants.{Fine}
 use Rattle.regs_runs.specs.Inner.Reaches.{Reaches}
 use Rattle.regs_runs.proofs.Reach.{stays, then, did_read}
 use Rattle.transfer_fast_write_async.specs.Inner.Fills.{Polls, StraightFill, Fills}
@@ -75,7 +74,7 @@ has_room {i = i} {len} {space} s j in_places in_bytes =
 -- how far the rounds came; the read buffer is not touched
 pub record Came (from len at : ℕ) (send_stop : Bool) (bytes readings : List ℕ) (used : ℕ) (l₀ : List ℕ) (entries : ℕ) (l : List ℕ)
     (i u k : ℕ) : Type 0 where
-  pub fills : Fills len at send_stop bytes readings from entries used l₀ (Go (WriteAsync (Free i))) k u l
+  pub fills : Fills len at send_stop bytes readings from entries used l₀ (go (WriteAsync (Free i))) k u l
   pub within : i ≤ len
   pub held : at + len ≤ length bytes + 1
   pub left : u ≤ length readings
@@ -134,7 +133,7 @@ module _ {from len at : ℕ} {send_stop : Bool} {bytes readings : List ℕ} {use
           then (rw (← e₁) at g₁) (f.came coded kinds lengths t b el ea es)
 
       -- the bytes have ended, and a place is left
-      pub last_round : {x : Step} → j < n → i₂ ≡ len → x ≡ wait_stop send_stop Fine
+      pub last_round : {x : StepTaken} → j < n → i₂ ≡ len → x ≡ wait_stop send_stop (Ok tt)
           → Fills len at send_stop bytes readings from entries used l₀ x k₂ (u + 1) l₂
       last_round {x} more ended ex =
           record {

@@ -9,7 +9,7 @@ ghost use Rattle.transfer.specs.Inner.Machine.{byte_at};
 ghost use Rattle.transfer_fast_write_async.specs.Inner.Fills.{Polls, StraightFill, Fills};
 
 use regs_runs::{put_read, put_write};
-use transfer::{FillPoint, Point, Step, Tried};
+use transfer::{FillPoint, Point, Step};
 use transfer_access::words::word_of_fill;
 use transfer_after_waits::wait_for_stop;
 use transfer_fast_blocking::{free, is_within};
@@ -128,7 +128,7 @@ fn run(
         let space = planned(i, len, readings, u, k, room);
         if space == 0 {
             return Came {
-                step: Step::Go(Point::WriteAsync(FillPoint::Free(i))),
+                step: Ok(Some(Point::WriteAsync(FillPoint::Free(i)))),
                 used: u,
                 entries: k,
             };
@@ -152,7 +152,7 @@ fn run(
         k += 2;
     }
     Came {
-        step: wait_for_stop(send_stop, Tried::Fine),
+        step: Ok(wait_for_stop(send_stop, Ok(()))),
         used: u,
         entries: k,
     }
@@ -182,7 +182,7 @@ pub fn burst(
         }
     }
     Came {
-        step: Step::Go(Point::WriteAsync(FillPoint::Free(from))),
+        step: Ok(Some(Point::WriteAsync(FillPoint::Free(from)))),
         used,
         entries,
     }

@@ -28,6 +28,7 @@ fn length_at(lengths: &[u16], k: usize) -> u16
 }
 
 // Where a packet error code goes with the transfer, an empty write is refused in both modes.
+#[tactic(auto, unfolding(transfer::specs::Inner::Machine::write_point))]
 fn first_of_write(mode: Mode, coded: bool, len: u16) -> Point
     ensures { result ≡ write_point coded mode len }
 {
@@ -49,6 +50,7 @@ fn first_of_write(mode: Mode, coded: bool, len: u16) -> Point
     }
 }
 
+#[tactic(auto, unfolding(transfer::specs::Inner::Machine::read_point, transfer::specs::Inner::Machine::some_read))]
 fn first_of_read(mode: Mode, len: u16) -> Point
     ensures { result ≡ read_point mode len }
 {
@@ -65,6 +67,7 @@ fn first_of_read(mode: Mode, len: u16) -> Point
     }
 }
 
+#[tactic(auto, unfolding(transfer::specs::Inner::Machine::opened_write))]
 fn open_write(t: Transfer, coded: bool, n: usize, len: u16, last: bool) -> Transfer
     ensures { result ≡ opened_write coded t n len last }
 {
@@ -84,6 +87,7 @@ fn open_write(t: Transfer, coded: bool, n: usize, len: u16, last: bool) -> Trans
     }
 }
 
+#[tactic(auto, unfolding(transfer::specs::Inner::Machine::opened_read))]
 fn open_read(t: Transfer, n: usize, len: u16, last: bool) -> Transfer
     ensures { result ≡ opened_read t n len last }
 {
@@ -103,6 +107,7 @@ fn open_read(t: Transfer, n: usize, len: u16, last: bool) -> Transfer
     }
 }
 
+#[tactic(auto, unfolding(transfer::specs::Inner::Machine::opened))]
 fn open(t: Transfer, coded: bool, n: usize, kind: u8, len: u16, last: bool) -> Transfer
     ensures { result ≡ opened coded t n kind len last }
 {
@@ -133,6 +138,7 @@ fn at_point(t: Transfer, p: Point) -> Transfer
 
 // With a byte more for the code. 0 stays 0 and is refused when it is reached; 65,535 stays, since a
 // length has 16 bits (the limits keep it far below).
+#[tactic(auto, unfolding(transfer::specs::Inner::Machine::longer_length))]
 fn one_longer(len: u16) -> u16
     ensures { result ≡ longer_length len }
 {
@@ -143,6 +149,7 @@ fn one_longer(len: u16) -> u16
 }
 
 // The last operation has a place for the packet error code.
+#[tactic(auto, unfolding(transfer::specs::Inner::Machine::length_for))]
 fn length_for_code(coded: bool, last: bool, len: u16) -> u16
     ensures { result ≡ length_for coded last len }
 {
@@ -150,6 +157,7 @@ fn length_for_code(coded: bool, last: bool, len: u16) -> u16
 }
 
 // The next operation, or the end.
+#[tactic(auto, unfolding(transfer::specs::Inner::Machine::begun))]
 fn begin(t: Transfer, coded: bool, kinds: &[u8], lengths: &[u16]) -> Transfer
     ensures { result ≡ begun coded kinds.now lengths.now t }
 {
@@ -170,8 +178,9 @@ pub fn moved(t: Transfer, s: Step, coded: bool, kinds: &[u8], lengths: &[u16]) -
     ensures { result ≡ moved_to coded kinds.now lengths.now t s }
 {
     match s {
-        Step::Go(p) => at_point(t, p),
-        Step::Done => begin(t, coded, kinds, lengths),
+        Ok(Some(p)) => at_point(t, p),
+        Ok(None) => begin(t, coded, kinds, lengths),
+        Err(r) => at_point(t, Point::Finished(Answer::Refused(r))),
     }
 }
 
@@ -185,6 +194,7 @@ pub fn advance(t: Transfer, v: u32, coded: bool, kinds: &[u8], lengths: &[u16]) 
 }
 
 // The address is tested, then the block is disabled.
+#[tactic(auto, unfolding(transfer::specs::Inner::Machine::tested_point))]
 fn tested(address: u16) -> Point
     ensures { result ≡ tested_point address }
 {
@@ -197,6 +207,7 @@ fn tested(address: u16) -> Point
 
 // The first access, or the refusal of the address. An async
 // transfer of no operations makes no access at any address.
+#[tactic(auto, unfolding(transfer::specs::Inner::Machine::first_point))]
 fn first_of(mode: Mode, address: u16, none: bool) -> Point
     ensures { result ≡ first_point mode address none }
 {

@@ -5,8 +5,8 @@ use mathlib.Core.Logic.{◌⊎◌, inl, inr}
 use lib.Dec.{ltb}
 use Rattle.regs.specs.declared.answers.AbortReason.TheVariants as E
 use Rattle.regs.specs.declared.answers.Answer.{Answer}
-use Rattle.transfer.specs.declared.Tried.{Tried}
-use Rattle.transfer.specs.declared.Tried.TheVariants.{Fine, Failed}
+use Rattle.transfer.specs.Inner.Points.{Tried}
+use Rattle.std.specs.Prelude.{Ok, Err}
 use Rattle.transfer.specs.declared.SetupPoint.TheVariants.{Disable, Target, Enable}
 use Rattle.transfer.specs.declared.AbortPoint.TheVariants as A
 use Rattle.transfer.specs.declared.Caller.{Caller}
@@ -32,12 +32,12 @@ use Rattle.words_points.specs.Inner.Numbers.{read_at, write_at, queue_at, fill_a
 
 tried_kept : (t : Tried) → tried_at (tried_row t) ≡ t
 unfolding tried_at tried_row reason_at reason_row failure
-tried_kept Fine = refl
-tried_kept (Failed E.NoAcknowledge) = refl
-tried_kept (Failed E.ArbitrationLoss) = refl
-tried_kept (Failed (E.TxNotEmpty n)) = refl
-tried_kept (Failed (E.Other w)) = refl
-tried_kept (Failed (E.DataNotAcknowledged w)) = refl
+tried_kept (Ok _) = refl
+tried_kept (Err E.NoAcknowledge) = refl
+tried_kept (Err E.ArbitrationLoss) = refl
+tried_kept (Err (E.TxNotEmpty n)) = refl
+tried_kept (Err (E.Other w)) = refl
+tried_kept (Err (E.DataNotAcknowledged w)) = refl
 
 caller_kept : (c : Caller) → caller_at (caller_row c) ≡ c
 unfolding caller_at caller_row indexed rounded ending round_at

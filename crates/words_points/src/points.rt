@@ -34,9 +34,9 @@ fn tried_of(f: Failure) -> Tried
     ensures { result ≡ tried_at f }
 {
     if f.kind == 0 {
-        return Tried::Fine;
+        return Ok(());
     }
-    Tried::Failed(reason_of(f))
+    Err(reason_of(f))
 }
 
 fn round_of(w: Who) -> Round

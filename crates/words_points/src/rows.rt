@@ -36,8 +36,8 @@ fn of_tried(t: Tried) -> Failure
     ensures { result ≡ tried_row t }
 {
     match t {
-        Tried::Fine => fail(0, 0, 0),
-        Tried::Failed(a) => of_reason(a),
+        Ok(()) => fail(0, 0, 0),
+        Err(a) => of_reason(a),
     }
 }
 

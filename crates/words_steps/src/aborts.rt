@@ -3,7 +3,6 @@ ghost use Rattle.std.specs.Prelude.{◌≡◌, get_or};
 ghost use Rattle.words_steps.specs.Inner.InPlace.{InPlace};
 
 use super::{FETCH, FULL, READ_LEVEL, SEND};
-use transfer::counts::smaller;
 use words::{BATCH, COUNT, GROUP, INDEX, KIND, LEN, REMAINING, ROW, half, sized};
 
 // A byte was written: to the next one, where one follows.
@@ -38,7 +37,7 @@ fn arrived(words: &mut [u64; 20], v: u32) -> u64
     if level < half(words[BATCH]) {
         return 0;
     }
-    let n = smaller(level, remaining);
+    let n = level.min(remaining);
     if n == 0 {
         return 0;
     }

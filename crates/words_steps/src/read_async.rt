@@ -4,7 +4,6 @@ ghost use Rattle.words_steps.specs.Inner.InPlace.{InPlace};
 
 use super::{CAPACITY, FETCH, LEVEL, QUEUED, SOURCE};
 use regs::fields::level_of;
-use transfer::counts::{less, smaller};
 use words::{BATCH, COUNT, GROUP, KIND, QUEUE, REMAINING, ROW, half, sized};
 
 // From `Capacity` to so many words to queue, or to `Level`.
@@ -18,7 +17,7 @@ fn capacity(words: &mut [u64; 20], v: u32) -> u64
     if 16 < level {
         return 0;
     }
-    let n = smaller(half(words[QUEUE]), (16 - level) as u16);
+    let n = half(words[QUEUE]).min((16 - level) as u16);
     if n == 0 {
         words[ROW] = 2;
         words[BATCH] = 0;
@@ -37,8 +36,8 @@ fn queued(words: &mut [u64; 20], v: u32) -> u64
     ensures { InPlace words.old v result words.new }
 {
     sized(words);
-    let left = less(half(words[COUNT]));
-    words[QUEUE] = less(half(words[QUEUE])) as u64;
+    let left = half(words[COUNT]).saturating_sub(1);
+    words[QUEUE] = half(words[QUEUE]).saturating_sub(1) as u64;
     if left == 0 {
         words[ROW] = 2;
         return LEVEL;
@@ -54,7 +53,7 @@ fn fetched(words: &mut [u64; 20], v: u32) -> u64
     ensures { InPlace words.old v result words.new }
 {
     sized(words);
-    let left = less(half(words[COUNT]));
+    let left = half(words[COUNT]).saturating_sub(1);
     if left != 0 {
         words[COUNT] = left as u64;
         return FETCH;

@@ -4,7 +4,6 @@ ghost use Rattle.words_steps.specs.Inner.InPlace.{InPlace};
 
 use super::{FILL, FREE, SOURCE};
 use regs::fields::level_of;
-use transfer::counts::less;
 use words::{COUNT, GROUP, INDEX, KIND, LEN, ROW, half, sized};
 
 // From `Free` to so many places to fill, or to a look for an abort where none is free.
@@ -43,7 +42,7 @@ fn filled(words: &mut [u64; 20], v: u32) -> u64
     if len < next {
         return 0;
     }
-    let left = less(half(words[COUNT]));
+    let left = half(words[COUNT]).saturating_sub(1);
     if left == 0 {
         words[GROUP] = 1;
         words[ROW] = 0;

@@ -1,5 +1,6 @@
 -- A master transfer as a machine: the access at each point, where a reading leads, and what is stored with it.
-use Rattle.std.specs.Prelude.{ℕ, ◌+◌, ◌-◌, ◌%◌, ◌^◌, min, Bool, true, false, ◌&&◌, ◌||◌, ltb, List, length, ◌==◌, nat_lt, slice_index, if◌then◌else◌, None, Some}
+use Rattle.std.specs.Prelude.{Option, None, Some, Result, Ok, Err}
+use Rattle.std.specs.Prelude.{ℕ, ◌+◌, ◌-◌, ◌%◌, ◌^◌, min, Bool, true, false, ◌&&◌, ◌||◌, ltb, List, length, ◌==◌, nat_lt, slice_index, if◌then◌else◌}
 use Rattle.regs.specs.Registers.{TAR, DATA_CMD, INTR_MASK, RAW_INTR_STAT, RX_TL, TX_TL, CLR_TX_ABRT, CLR_STOP_DET}
 use Rattle.regs.specs.Registers.{ENABLE, TXFLR, RXFLR, TX_ABRT_SOURCE}
 use Rattle.regs.specs.Fields.{command_word, dat, address_field, level, tx_empty, stop_det, set_m_rx_full}
@@ -7,16 +8,15 @@ use Rattle.regs.specs.Fields.{set_m_tx_empty, set_m_tx_abrt, set_m_stop_det}
 use Rattle.regs.specs.Steps.{Machine}
 use Rattle.regs.specs.declared.answers.AbortReason.{AbortReason}
 use Rattle.regs.specs.declared.answers.Answer.TheVariants.{Accepted, Refused}
+use Rattle.regs.specs.declared.answers.Refusal.{Refusal}
 use Rattle.regs.specs.declared.answers.Refusal.TheVariants as X
 use Rattle.regs.specs.declared.access.Next.{Next}
 use Rattle.regs.specs.declared.access.Next.TheVariants as N
 use Rattle.regs.specs.Store.{Store}
 use Rattle.master.specs.Driver.{reason_of}
-use Rattle.transfer.specs.Inner.Points.{transfer_at, with_point, has_failed}
+use Rattle.transfer.specs.Inner.Points.{transfer_at, with_point, Tried, is_failed}
 use Rattle.transfer.specs.declared.Mode.{Mode}
 use Rattle.transfer.specs.declared.Mode.TheVariants.{Blocking, Async}
-use Rattle.transfer.specs.declared.Tried.{Tried}
-use Rattle.transfer.specs.declared.Tried.TheVariants.{Fine, Failed}
 use Rattle.transfer.specs.declared.Round.{Round}
 use Rattle.transfer.specs.declared.SetupPoint.{SetupPoint}
 use Rattle.transfer.specs.declared.SetupPoint.TheVariants.{Disable, Target, Enable}
@@ -41,11 +41,7 @@ use Rattle.transfer.specs.declared.StopPoint.TheVariants as S
 use Rattle.transfer.specs.declared.Point.{Point}
 use Rattle.transfer.specs.declared.Point.TheVariants.{Setup, Abort, ReadBlocking, WriteBlocking, ReadAsync}
 use Rattle.transfer.specs.declared.Point.TheVariants.{WriteAsync, Wait, Stop, Finished}
-use Rattle.transfer.specs.declared.Step.{Step}
-use Rattle.transfer.specs.declared.Step.TheVariants.{Go, Done}
 use Rattle.transfer.specs.declared.Transfer.{Transfer}
-use Rattle.transfer.specs.declared.counts.Capacity.{Capacity}
-use Rattle.transfer.specs.declared.counts.Capacity.TheVariants.{Places, TooHigh}
 
 -- ---- the accesses
 
@@ -153,35 +149,44 @@ store_of t v = store_at t t.point v
 
 -- ---- where a reading leads
 
+-- to a point, to the next operation, or to the end of the transfer by a refusal
+abbrev pub StepTaken : Type 0
+StepTaken = Result (Option Point) Refusal
+
+abbrev pub go : Point → StepTaken
+go p = Ok (Some p)
+
+-- the operation is over
+abbrev pub over : StepTaken
+over = Ok None
+
 -- an abort ends the transfer
-abbrev pub fail : AbortReason → Step
-fail r = Go (Finished (Refused (X.Abort r)))
+abbrev pub fail : AbortReason → StepTaken
+fail r = Err (X.Abort r)
 
 -- `wait_stop_det`: an abort or a wanted STOP is waited for
-unfoldable pub wait_stop : Bool → Tried → Step
-wait_stop send_stop had = if has_failed had || send_stop then Go (Abort A.Source (C.Stop had)) else Done
+unfoldable pub wait_stop : Bool → Tried → StepTaken
+wait_stop send_stop had = if is_failed had || send_stop then go (Abort A.Source (C.Stop had)) else over
 
 -- `r?` after STOP_DET is cleared
-unfoldable pub try_step : Tried → Step
-try_step Fine = Done
-try_step (Failed r) = fail r
+unfoldable pub try_step : Tried → StepTaken
+try_step (Ok _) = over
+try_step (Err r) = fail r
 
-unfoldable pub places : ℕ → Capacity
-places n = if nat_lt 16 n then TooHigh n else Places (16 - n)
+-- the transmit FIFO's free places; a level that it does not have is refused
+unfoldable pub places : ℕ → Result ℕ Refusal
+places n = if nat_lt 16 n then Err (X.TxLevelOutOfRange n) else Ok (16 - n)
 
-abbrev pub capacity : ℕ → Capacity
+abbrev pub capacity : ℕ → Result ℕ Refusal
 capacity v = places (level v)
-
-abbrev pub too_high : ℕ → Step
-too_high n = Go (Finished (Refused (X.TxLevelOutOfRange n)))
 
 -- STOP rides on byte i
 unfoldable pub closes : ℕ → Bool → ℕ → Bool
 closes len send_stop i = send_stop && i == len - 1
 
 -- after byte i: the next one at p, or the end of the operation
-abbrev pub after_byte : ℕ → ℕ → Point → Step
-after_byte len i p = if nat_lt i len then (if ltb (i + 1) len then Go p else Done) else Done
+abbrev pub after_byte : ℕ → ℕ → Point → StepTaken
+after_byte len i p = if nat_lt i len then (if ltb (i + 1) len then go p else over) else over
 
 abbrev pub with_queue : Round → ℕ → Round
 with_queue round q = record { remaining = round.remaining; queue = q; batch = round.batch }
@@ -193,94 +198,94 @@ abbrev pub with_remaining : Round → ℕ → Round
 with_remaining round n = record { remaining = n; queue = round.queue; batch = round.batch }
 
 -- an async read: so many words are to be queued in this round
-unfoldable pub queued : Round → ℕ → Step
-queued round words = if words == 0 then Go (ReadAsync (Q.Level round)) else Go (ReadAsync (Q.Queue round words))
+unfoldable pub queued : Round → ℕ → StepTaken
+queued round words = if words == 0 then go (ReadAsync (Q.Level round)) else go (ReadAsync (Q.Queue round words))
 
 -- a round is over
-unfoldable pub next_turn : Bool → Round → Step
-next_turn send_stop round = if round.remaining == 0 then wait_stop send_stop Fine else Go (ReadAsync (Q.Capacity round))
+unfoldable pub next_turn : Bool → Round → StepTaken
+next_turn send_stop round = if round.remaining == 0 then wait_stop send_stop (Ok tt) else go (ReadAsync (Q.Capacity round))
 
 -- so many bytes are to be fetched
-unfoldable pub fetching : Bool → Round → ℕ → Step
-fetching send_stop round left = if left == 0 then next_turn send_stop round else Go (ReadAsync (Q.Fetch round left))
+unfoldable pub fetching : Bool → Round → ℕ → StepTaken
+fetching send_stop round left = if left == 0 then next_turn send_stop round else go (ReadAsync (Q.Fetch round left))
 
 -- an async write: from byte i on, with so many free places
-unfoldable pub filling : ℕ → Bool → ℕ → ℕ → Step
+unfoldable pub filling : ℕ → Bool → ℕ → ℕ → StepTaken
 filling len send_stop i space =
-    if space == 0 then Go (Abort A.Source (C.Space i))
-    else (if ltb i len then Go (WriteAsync (F.Fill i space)) else wait_stop send_stop Fine)
+    if space == 0 then go (Abort A.Source (C.Space i))
+    else (if ltb i len then go (WriteAsync (F.Fill i space)) else wait_stop send_stop (Ok tt))
 
 unfoldable pub after_index : ℕ → ℕ → ℕ
 after_index len i = if nat_lt i len then i + 1 else i
 
 -- in the wait for STOP: a first abort wins
-unfoldable pub stop_returned : Tried → Tried → Step
-stop_returned Fine Fine = Go (Stop (S.Stat Fine))
-stop_returned Fine (Failed r) = Go (Stop (S.Clear (Failed r)))
-stop_returned (Failed r) Fine = Go (Stop (S.Stat (Failed r)))
-stop_returned (Failed r) (Failed s) = Go (Stop (S.Stat (Failed r)))
+unfoldable pub stop_returned : Tried → Tried → StepTaken
+stop_returned (Ok _) (Ok _) = go (Stop (S.Stat (Ok tt)))
+stop_returned (Ok _) (Err r) = go (Stop (S.Clear (Err r)))
+stop_returned (Err r) (Ok _) = go (Stop (S.Stat (Err r)))
+stop_returned (Err r) (Err s) = go (Stop (S.Stat (Err r)))
 
 -- `read_and_clear_abort_reason` returns to its caller
-unfoldable pub returned : ℕ → Bool → Caller → Tried → Step
-returned len send_stop (C.Read i) Fine = Go (ReadBlocking (R.Level i))
-returned len send_stop (C.Read i) (Failed r) = fail r
-returned len send_stop (C.Write i) Fine =
-    if closes len send_stop i then Go (WriteBlocking (W.StopDet Fine)) else after_byte len i (WriteBlocking (W.Send (i + 1)))
-returned len send_stop (C.Write i) (Failed r) = Go (WriteBlocking (W.StopDet (Failed r)))
-returned len send_stop (C.Batch round rxfifo) Fine =
-    if nat_lt rxfifo round.batch then Go (Wait (M.RxTl round))
+unfoldable pub returned : ℕ → Bool → Caller → Tried → StepTaken
+returned len send_stop (C.Read i) (Ok _) = go (ReadBlocking (R.Level i))
+returned len send_stop (C.Read i) (Err r) = fail r
+returned len send_stop (C.Write i) (Ok _) =
+    if closes len send_stop i then go (WriteBlocking (W.StopDet (Ok tt))) else after_byte len i (WriteBlocking (W.Send (i + 1)))
+returned len send_stop (C.Write i) (Err r) = go (WriteBlocking (W.StopDet (Err r)))
+returned len send_stop (C.Batch round rxfifo) (Ok _) =
+    if nat_lt rxfifo round.batch then go (Wait (M.RxTl round))
     else fetching send_stop (with_remaining round (round.remaining - min rxfifo round.remaining)) (min rxfifo round.remaining)
-returned len send_stop (C.Batch round rxfifo) (Failed r) = wait_stop send_stop (Failed r)
-returned len send_stop (C.Space i) Fine = Go (WriteAsync (F.Full i))
-returned len send_stop (C.Space i) (Failed r) = wait_stop send_stop (Failed r)
+returned len send_stop (C.Batch round rxfifo) (Err r) = wait_stop send_stop (Err r)
+returned len send_stop (C.Space i) (Ok _) = go (WriteAsync (F.Full i))
+returned len send_stop (C.Space i) (Err r) = wait_stop send_stop (Err r)
 returned len send_stop (C.Stop had) abort = stop_returned had abort
 
-unfoldable pub step_setup : SetupPoint → Step
-step_setup Disable = Go (Setup Target)
-step_setup Target = Go (Setup Enable)
-step_setup Enable = Done
+unfoldable pub step_setup : SetupPoint → StepTaken
+step_setup Disable = go (Setup Target)
+step_setup Target = go (Setup Enable)
+step_setup Enable = over
 
-unfoldable pub step_abort : ℕ → Bool → Caller → AbortPoint → ℕ → Step
-step_abort len send_stop caller A.Source v = if v == 0 then returned len send_stop caller Fine else Go (Abort (A.Clear v) caller)
-step_abort len send_stop caller (A.Clear w) v = returned len send_stop caller (Failed (reason_of w))
+unfoldable pub step_abort : ℕ → Bool → Caller → AbortPoint → ℕ → StepTaken
+step_abort len send_stop caller A.Source v = if v == 0 then returned len send_stop caller (Ok tt) else go (Abort (A.Clear v) caller)
+step_abort len send_stop caller (A.Clear w) v = returned len send_stop caller (Err (reason_of w))
 
-unfoldable pub room_step : ℕ → Capacity → Step
-room_step i (TooHigh n) = too_high n
-room_step i (Places n) = if n == 0 then Go (ReadBlocking (R.Room i)) else Go (ReadBlocking (R.Ask i))
+unfoldable pub room_step : ℕ → Result ℕ Refusal → StepTaken
+room_step i (Err r) = Err r
+room_step i (Ok n) = if n == 0 then go (ReadBlocking (R.Room i)) else go (ReadBlocking (R.Ask i))
 
-unfoldable pub level_step : ℕ → ℕ → Step
-level_step i n = if n == 0 then Go (Abort A.Source (C.Read i)) else Go (ReadBlocking (R.Take i))
+unfoldable pub level_step : ℕ → ℕ → StepTaken
+level_step i n = if n == 0 then go (Abort A.Source (C.Read i)) else go (ReadBlocking (R.Take i))
 
-unfoldable pub step_read : ℕ → ReadPoint → ℕ → Step
+unfoldable pub step_read : ℕ → ReadPoint → ℕ → StepTaken
 step_read len (R.Room i) v = room_step i (capacity v)
-step_read len (R.Ask i) v = Go (ReadBlocking (R.Level i))
+step_read len (R.Ask i) v = go (ReadBlocking (R.Level i))
 step_read len (R.Level i) v = level_step i (level v)
 step_read len (R.Take i) v = after_byte len i (ReadBlocking (R.Room (i + 1)))
 
-unfoldable pub step_write : WritePoint → ℕ → Step
-step_write (W.Send i) v = Go (WriteBlocking (W.Empty i))
-step_write (W.Empty i) v = if tx_empty v then Go (Abort A.Source (C.Write i)) else Go (WriteBlocking (W.Empty i))
-step_write (W.StopDet r) v = if stop_det v then Go (Stop (S.Clear r)) else Go (WriteBlocking (W.StopDet r))
+unfoldable pub step_write : WritePoint → ℕ → StepTaken
+step_write (W.Send i) v = go (WriteBlocking (W.Empty i))
+step_write (W.Empty i) v = if tx_empty v then go (Abort A.Source (C.Write i)) else go (WriteBlocking (W.Empty i))
+step_write (W.StopDet r) v = if stop_det v then go (Stop (S.Clear r)) else go (WriteBlocking (W.StopDet r))
 
-unfoldable pub batch_step : Round → Capacity → Step
-batch_step round (TooHigh n) = too_high n
-batch_step round (Places n) = queued (with_batch round (min round.queue n)) (min round.queue n)
+unfoldable pub batch_step : Round → Result ℕ Refusal → StepTaken
+batch_step round (Err r) = Err r
+batch_step round (Ok n) = queued (with_batch round (min round.queue n)) (min round.queue n)
 
-unfoldable pub step_round : Bool → RoundPoint → ℕ → Step
+unfoldable pub step_round : Bool → RoundPoint → ℕ → StepTaken
 step_round send_stop (Q.Capacity round) v = batch_step round (capacity v)
 step_round send_stop (Q.Queue round words) v = queued (with_queue round (round.queue - 1)) (words - 1)
-step_round send_stop (Q.Level round) v = Go (Abort A.Source (C.Batch round (level v)))
+step_round send_stop (Q.Level round) v = go (Abort A.Source (C.Batch round (level v)))
 step_round send_stop (Q.Fetch round left) v = fetching send_stop round (left - 1)
 
-unfoldable pub free_step : ℕ → Bool → ℕ → Capacity → Step
-free_step len send_stop i (TooHigh n) = too_high n
-free_step len send_stop i (Places n) = filling len send_stop i n
+unfoldable pub free_step : ℕ → Bool → ℕ → Result ℕ Refusal → StepTaken
+free_step len send_stop i (Err r) = Err r
+free_step len send_stop i (Ok n) = filling len send_stop i n
 
-unfoldable pub full_step : ℕ → Capacity → Step
-full_step i (TooHigh n) = too_high n
-full_step i (Places n) = if n == 0 then Go (Wait (M.TxTl i)) else Go (WriteAsync (F.Free i))
+unfoldable pub full_step : ℕ → Result ℕ Refusal → StepTaken
+full_step i (Err r) = Err r
+full_step i (Ok n) = if n == 0 then go (Wait (M.TxTl i)) else go (WriteAsync (F.Free i))
 
-unfoldable pub step_fill : ℕ → Bool → FillPoint → ℕ → Step
+unfoldable pub step_fill : ℕ → Bool → FillPoint → ℕ → StepTaken
 step_fill len send_stop (F.Free i) v = free_step len send_stop i (capacity v)
 step_fill len send_stop (F.Fill i space) v = filling len send_stop (after_index len i) (space - 1)
 step_fill len send_stop (F.Full i) v = full_step i (capacity v)
@@ -297,18 +302,18 @@ poll_point (O.Batch round) = ReadAsync (Q.Level round)
 poll_point (O.Space i) = Abort A.Source (C.Space i)
 poll_point (O.Stop had) = Abort A.Source (C.Stop had)
 
-unfoldable pub step_wait : WaitPoint → ℕ → Step
-step_wait (M.RxTl round) v = Go (Wait (M.Mask (O.Batch round)))
-step_wait (M.TxTl i) v = Go (Wait (M.Mask (O.Space i)))
-step_wait (M.Mask poll) v = Go (Wait (M.SetMask poll (mask_for poll v)))
-step_wait (M.SetMask poll w) v = Go (Wait (M.Pending poll))
-step_wait (M.Pending poll) v = Go (poll_point poll)
+unfoldable pub step_wait : WaitPoint → ℕ → StepTaken
+step_wait (M.RxTl round) v = go (Wait (M.Mask (O.Batch round)))
+step_wait (M.TxTl i) v = go (Wait (M.Mask (O.Space i)))
+step_wait (M.Mask poll) v = go (Wait (M.SetMask poll (mask_for poll v)))
+step_wait (M.SetMask poll w) v = go (Wait (M.Pending poll))
+step_wait (M.Pending poll) v = go (poll_point poll)
 
-unfoldable pub step_stop : StopPoint → ℕ → Step
-step_stop (S.Stat had) v = if stop_det v then Go (Stop (S.Clear had)) else Go (Wait (M.Mask (O.Stop had)))
+unfoldable pub step_stop : StopPoint → ℕ → StepTaken
+step_stop (S.Stat had) v = if stop_det v then go (Stop (S.Clear had)) else go (Wait (M.Mask (O.Stop had)))
 step_stop (S.Clear r) v = try_step r
 
-unfoldable pub step_of : ℕ → Bool → Point → ℕ → Step
+unfoldable pub step_of : ℕ → Bool → Point → ℕ → StepTaken
 step_of len send_stop (Setup p) v = step_setup p
 step_of len send_stop (Abort p caller) v = step_abort len send_stop caller p v
 step_of len send_stop (ReadBlocking p) v = step_read len p v
@@ -317,7 +322,7 @@ step_of len send_stop (ReadAsync p) v = step_round send_stop p v
 step_of len send_stop (WriteAsync p) v = step_fill len send_stop p v
 step_of len send_stop (Wait p) v = step_wait p v
 step_of len send_stop (Stop p) v = step_stop p v
-step_of len send_stop (Finished a) v = Go (Finished a)
+step_of len send_stop (Finished a) v = go (Finished a)
 
 -- ---- operations. `coded`, that a packet error code goes with the transfer, changes how one is opened, and nothing else:
 -- an empty write is refused in both modes, and the last operation, where it has data, is one byte longer.
@@ -361,9 +366,10 @@ begun coded kinds lengths t =
     (length_for coded (t.begun + 1 == length kinds) (slice_index lengths t.begun)) (t.begun + 1 == length kinds)
     else with_point t (Finished Accepted)
 
-abbrev pub moved_to : Bool → List ℕ → List ℕ → Transfer → Step → Transfer
-moved_to coded kinds lengths t (Go p) = with_point t p
-moved_to coded kinds lengths t Done = begun coded kinds lengths t
+abbrev pub moved_to : Bool → List ℕ → List ℕ → Transfer → StepTaken → Transfer
+moved_to coded kinds lengths t (Ok (Some p)) = with_point t p
+moved_to coded kinds lengths t (Ok None) = begun coded kinds lengths t
+moved_to coded kinds lengths t (Err r) = with_point t (Finished (Refused r))
 
 abbrev pub advance_of : Bool → List ℕ → List ℕ → Transfer → ℕ → Transfer
 advance_of coded kinds lengths t v = moved_to coded kinds lengths t (step_of t.len t.send_stop t.point v)

@@ -1,12 +1,11 @@
 -- A transfer's parts.
-use Rattle.std.specs.Prelude.{ℕ, Bool, true, false}
+use Rattle.std.specs.Prelude.{ℕ, Bool, true, false, Result, Ok, Err}
+use Rattle.regs.specs.declared.answers.AbortReason.{AbortReason}
 use Rattle.master.specs.Operations.{blocking, async}
 use Rattle.master.specs.Operations as Spec
 use Rattle.transfer.specs.declared.Mode.{Mode}
 use Rattle.transfer.specs.declared.Mode.TheVariants.{Blocking, Async}
 use Rattle.transfer.specs.declared.Point.{Point}
-use Rattle.transfer.specs.declared.Tried.{Tried}
-use Rattle.transfer.specs.declared.Tried.TheVariants.{Fine, Failed}
 use Rattle.transfer.specs.declared.Transfer.{Transfer}
 
 -- a transfer by its fields, in the struct's order
@@ -29,9 +28,13 @@ abbrev pub with_point : Transfer → Point → Transfer
 with_point t p =
     transfer_at p t.mode t.restart t.send_stop t.address t.len t.at t.begun t.reads t.writes
 
-abbrev pub has_failed : Tried → Bool
-has_failed Fine = false
-has_failed (Failed r) = true
+-- `Result<(), Error>`, where the Rust looks at it
+abbrev pub Tried : Type 0
+Tried = Result (Unit {0}) AbortReason
+
+abbrev pub is_failed : Tried → Bool
+is_failed (Ok u) = false
+is_failed (Err r) = true
 
 -- the machine's mode, as the definitions have it
 abbrev pub mode_of : Mode → Spec.Mode

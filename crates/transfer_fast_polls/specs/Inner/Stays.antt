@@ -7,7 +7,7 @@ use Rattle.transfer.specs.Inner.Points.{with_point}
 use Rattle.transfer.specs.Inner.Machine.{machine, next_at, store_at, step_of}
 use Rattle.transfer.specs.declared.Transfer.{Transfer}
 use Rattle.transfer.specs.declared.Point.{Point}
-use Rattle.transfer.specs.declared.Step.TheVariants.{Go}
+use Rattle.transfer.specs.Inner.Machine.{go}
 use Rattle.regs_runs.specs.Inner.Reaches.{Reaches}
 
 -- whatever the transfer is
@@ -24,7 +24,7 @@ flag_set false stat = tx_empty stat
 pub record AwaitsFlag (stop : Bool) (p : Point) : Type 0 where
   pub reads : (bytes : List ℕ) (t : Transfer) → next_at bytes t p ≡ Read RAW_INTR_STAT
   pub keeps : (t : Transfer) (v : ℕ) → store_at t p v ≡ None
-  pub waits : (len : ℕ) (send_stop : Bool) (v : ℕ) → flag_set stop v ≡ false → step_of len send_stop p v ≡ Go p
+  pub waits : (len : ℕ) (send_stop : Bool) (v : ℕ) → flag_set stop v ≡ false → step_of len send_stop p v ≡ go p
 
 -- ---- a blocking read: RXFLR has no byte, and nothing was aborted
 

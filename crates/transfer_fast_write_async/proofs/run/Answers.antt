@@ -6,7 +6,7 @@
 -- (`one_round`). The free log entries decrease.
 use native.Mathlib.Omega.{arith}
 use Prim.Native.Nat.{◌<◌}
-use mathlib.Core.Path.{◌∙◌}
+use mathlib.Core.Path.{◌∙◌, sym}
 use Rattle.transfer_fast_write_async.proofs.Filling.{more_bytes, same_word}
 use Rattle.transfer_fast_write_async.proofs.Filling.{one_filled}
 use Rattle.transfer_fast_write_async.proofs.Fills.{one_round, last_round}
@@ -34,4 +34,4 @@ pub returns : goal.returns
 returns c = let some : 0 < c.planned-space.result = omega (arith, c.if-space-eq0.false) in
     last_round c.xmit.invariant (c.planned-space.ensures some) some c.put_read.ensures
     c.loop.invariant c.loop-test.true
-    (c.has_ended.ensures.0 c.if-has_ended.true) c.wait_for_stop.ensures
+    (c.has_ended.ensures.0 c.if-has_ended.true) (sym c.wait_for_stop.ensures)

@@ -6,7 +6,7 @@ use Rattle.transfer.specs.Inner.Machine.{machine, moved_to}
 use Rattle.transfer.specs.declared.Transfer.{Transfer}
 use Rattle.transfer.specs.declared.Point.TheVariants.{WriteAsync}
 use Rattle.transfer.specs.declared.FillPoint.TheVariants.{Free}
-use Rattle.transfer.specs.declared.Step.{Step}
+use Rattle.transfer.specs.Inner.Machine.{StepTaken}
 use Rattle.regs_runs.specs.Inner.Reaches.{Reaches}
 
 -- the wait for a place ends at its first poll: TX_ABRT_SOURCE is clear and TXFLR has room
@@ -25,6 +25,6 @@ pub record StraightFill (readings : List ℕ) (u e room i len space : ℕ) : Typ
 
 -- whole rounds, from before byte i to where they lead: before a later byte, or past the last one
 pub record Fills (len at : ℕ) (send_stop : Bool) (bytes readings : List ℕ) (i e u : ℕ) (l : List ℕ)
-    (s : Step) (e' u' : ℕ) (l' : List ℕ) : Type 0 where
+    (s : StepTaken) (e' u' : ℕ) (l' : List ℕ) : Type 0 where
   pub reaches : (coded : Bool) (kinds lengths : List ℕ) (t : Transfer) (b : List ℕ) → t.len ≡ len → t.at ≡ at → t.send_stop ≡ send_stop
       → Reaches (machine coded kinds lengths bytes) readings (with_point t (WriteAsync (Free i))) e u l b (moved_to coded kinds lengths t s) e' u' l' b

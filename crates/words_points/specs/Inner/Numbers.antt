@@ -6,8 +6,8 @@ use Rattle.regs.specs.declared.answers.AbortReason.TheVariants as E
 use Rattle.regs.specs.declared.answers.Answer.{Answer}
 use Rattle.regs.specs.declared.answers.Answer.TheVariants.{Accepted}
 use Rattle.regs.specs.declared.answers.Reply.TheVariants.{Answered}
-use Rattle.transfer.specs.declared.Tried.{Tried}
-use Rattle.transfer.specs.declared.Tried.TheVariants.{Fine, Failed}
+use Rattle.transfer.specs.Inner.Points.{Tried}
+use Rattle.std.specs.Prelude.{Ok, Err}
 use Rattle.transfer.specs.declared.Round.{Round}
 use Rattle.transfer.specs.declared.SetupPoint.{SetupPoint}
 use Rattle.transfer.specs.declared.SetupPoint.TheVariants.{Disable, Target, Enable}
@@ -49,8 +49,8 @@ reason_row (E.Other w) = failure 4 0 w
 reason_row (E.DataNotAcknowledged w) = failure 5 0 w
 
 unfoldable pub tried_row : Tried → Failure
-tried_row Fine = failure 0 0 0
-tried_row (Failed r) = reason_row r
+tried_row (Ok _) = failure 0 0 0
+tried_row (Err r) = reason_row r
 
 -- at a byte, with a count; in a round, with a count; at the end of an operation
 unfoldable pub indexed : ℕ → ℕ → ℕ → Who
@@ -151,7 +151,7 @@ reason_at f = if eqb f.kind 1 then E.NoAcknowledge else
     (if eqb f.kind 5 then E.DataNotAcknowledged f.word else E.Other f.word)))
 
 unfoldable pub tried_at : Failure → Tried
-tried_at f = if eqb f.kind 0 then Fine else Failed (reason_at f)
+tried_at f = if eqb f.kind 0 then Ok tt else Err (reason_at f)
 
 unfoldable pub round_at : Who → Round
 round_at w = record { remaining = w.remaining; queue = w.queue; batch = w.batch }

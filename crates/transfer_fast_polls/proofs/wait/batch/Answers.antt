@@ -8,6 +8,6 @@ use Rattle.transfer_fast_polls.proofs.wait.batch.Goals as goal
 pub loop-n-preserved : goal.loop-n-preserved
 loop-n-preserved c = batch_next c.loop-n.invariant c.loop-n-test.true
     (sym c.is_too_few.ensures ∙ c.if-is_too_few.true) c.put_read.ensures
-    c.put_read-then-is_too_few.ensures (rw c.less.ensures at c.put_write.ensures)
+    c.put_read-then-is_too_few.ensures (rw c.saturating_sub.ensures at c.put_write.ensures)
     (rw c.with_m_rx_full.ensures at c.with_m_tx_abrt.ensures)
     c.put_wait.ensures

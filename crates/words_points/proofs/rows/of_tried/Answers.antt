@@ -2,10 +2,10 @@
 use Rattle.words_points.specs.Inner.Numbers.{tried_row}
 use Rattle.words_points.proofs.rows.of_tried.Goals as goal
 
-pub returns-in-Fine : goal.returns-in-Fine
+pub returns-in-Ok : goal.returns-in-Ok
 unfolding tried_row
-returns-in-Fine c = simp (c.in-Fine.is, c.fail.ensures)
+returns-in-Ok c = simp (c.in-Ok.is, c.fail.ensures)
 
-pub returns-in-Failed : goal.returns-in-Failed
+pub returns-in-Err : goal.returns-in-Err
 unfolding tried_row
-returns-in-Failed c = simp (c.in-Failed.is, c.of_reason.ensures)
+returns-in-Err c = simp (c.in-Err.is, c.of_reason.ensures)

@@ -10,9 +10,9 @@ use lib.ListN.{get_or}
 use Rattle.words_steps.proofs.aborts.arrived.Goals as goal
 
 pub returns : goal.returns
-returns c = let least : c.smaller-n.result ≡ min (get_or c.args.words.now 5 0 % 2 ^ 16)
+returns c = let least : c.min-n.result ≡ min (get_or c.args.words.now 5 0 % 2 ^ 16)
     (get_or c.args.words.now 6 0 % 2 ^ 16) =
-    simp (c.smaller-n.ensures, c.half-level.ensures, c.half-remaining.ensures) in
+    simp (c.min-n.ensures, c.half-level.ensures, c.half-remaining.ensures) in
     simp (least, c.half-remaining.ensures)
     (made refl refl (to_fetch c.args.v c.args.words.now c.sized.ensures
     c.requires.0 c.requires.1

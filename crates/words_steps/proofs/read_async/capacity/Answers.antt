@@ -11,16 +11,16 @@ use Rattle.words_steps.proofs.ReadAsync.{no_words, words_to_queue}
 use Rattle.words_steps.proofs.read_async.capacity.Goals as goal
 
 pub returns-then-n-eq0 : goal.returns-then-n-eq0
-returns-then-n-eq0 c = let least : c.smaller-n.result ≡ min (get_or c.args.words.now 7 0 % 2 ^ 16)
+returns-then-n-eq0 c = let least : c.min-n.result ≡ min (get_or c.args.words.now 7 0 % 2 ^ 16)
     (16 - level c.args.v) =
-    simp (c.smaller-n.ensures, c.half.ensures, c.level_of-level.ensures) in
+    simp (c.min-n.ensures, c.half.ensures, c.level_of-level.ensures) in
     made refl refl (no_words c.args.v c.args.words.now c.sized.ensures
     c.requires.0 c.requires.1 (omega arith, sym least ∙ c.if-n-eq0.true))
 
 pub returns : goal.returns
-returns c = let least : c.smaller-n.result ≡ min (get_or c.args.words.now 7 0 % 2 ^ 16)
+returns c = let least : c.min-n.result ≡ min (get_or c.args.words.now 7 0 % 2 ^ 16)
     (16 - level c.args.v) =
-    simp (c.smaller-n.ensures, c.half.ensures, c.level_of-level.ensures) in
+    simp (c.min-n.ensures, c.half.ensures, c.level_of-level.ensures) in
     simp (least) (made refl refl
     (words_to_queue c.args.v c.args.words.now c.sized.ensures
     c.requires.0 c.requires.1 (omega arith, λ e. c.if-n-eq0.false (least ∙ e))))
