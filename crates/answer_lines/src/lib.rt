@@ -7,8 +7,8 @@ ghost use Rattle.text_hex.specs.Appended.{Appended};
 ghost use Rattle.answer_lines.specs.Lines.{number_after, no_frame, warning, LOG_WORDS, KeptOn};
 
 use answer_frames::frame_in;
-use text_tables::decimal::push_digits;
-use text_tables::push_text;
+use text_tables::ends::push_digits;
+use text_tables::ends::push_text;
 
 // The number of the line behind so many others.
 pub fn number_after(lines: u64) -> u64

@@ -6,8 +6,8 @@ ghost use Rattle.explain_bus.specs.Line.{name_text, direction_letter, run_text, 
 ghost use Rattle.explain_bus.specs.Inner.Words.{kind_text, word_text, words_text, words_line};
 
 use text_hex::print::{push, push2};
-use text_tables::decimal::push_digits;
-use text_tables::push_cell;
+use text_tables::ends::push_digits;
+use text_tables::ends::push_cell;
 
 // START, RESTART or STOP.
 pub fn push_name(out: &mut [u8], at: usize, row: usize) -> usize

@@ -7,8 +7,8 @@ ghost use Rattle.explain_frames.specs.Tables.{aborts_flags};
 ghost use Rattle.explain_frames.specs.Texts.{counted_text, causes_text};
 
 use regs_causes::{Counted, causes};
-use text_tables::decimal::push_digits;
-use text_tables::{push_cell, push_flags, push_text};
+use text_tables::ends::push_digits;
+use text_tables::ends::{push_cell, push_flags, push_text};
 
 // How many causes there are, and the name of the lowest.
 fn push_counted(out: &mut [u8], at: usize, table: &[u8], c: Counted) -> usize

@@ -15,7 +15,7 @@ ghost use Rattle.explain_frames.specs.Texts.{abort_text, frame_text, explained};
 use aborts::push_abort;
 use answer_frames::{Frame, frame_in};
 use text_hex::print::{push, push2, push8};
-use text_tables::{push_cell, push_flags, push_pairs};
+use text_tables::ends::{push_cell, push_flags, push_pairs};
 
 // The longest line, a buffer of 4,096 bytes, and the room that the text of every line has in.
 pub const LONGEST: usize = 8194;

@@ -11,7 +11,7 @@ ghost use Rattle.svg_lines.specs.Inner.Said.{Lent, SaidAs, last_warning};
 
 use answer_frames::{frame_in, is_answer};
 use answer_lines::{keep_on, no_frame, number_after, push_warning};
-use text_tables::push_text;
+use text_tables::ends::push_text;
 
 // How many lines came, how much of the open call's log is used, and whether the picture was drawn.
 #[derive(Clone, Copy)]

@@ -8,7 +8,7 @@ ghost use Rattle.svg_text.specs.Inner.Drawn.{kind_width, words_text, words_last,
 
 use svg_text::head::{push_head, push_number};
 use svg_text::sign::push_word;
-use text_tables::push_text;
+use text_tables::ends::push_text;
 
 // How many signs are drawn, how many entries a sequence may have, and the room for its text.
 pub const DRAWN: usize = 256;

@@ -5,8 +5,8 @@ ghost use Rattle.text_hex.specs.Appended.{Appended};
 ghost use Rattle.svg_text.specs.Texts.{style_text, conditions_text, bytes_text, legend_text};
 ghost use Rattle.svg_text.specs.Picture.{number_text, opening_text, head_text};
 
-use text_tables::decimal::push_digits;
-use text_tables::push_text;
+use text_tables::ends::push_digits;
+use text_tables::ends::push_text;
 
 // A coordinate or a count.
 pub fn push_number(out: &mut [u8], at: usize, n: u32) -> usize

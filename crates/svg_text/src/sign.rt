@@ -9,7 +9,7 @@ ghost use Rattle.svg_text.specs.Inner.Drawn.{kind_text, word_text};
 
 use super::head::push_number;
 use text_hex::print::{push, push2};
-use text_tables::push_text;
+use text_tables::ends::push_text;
 
 // A shape of the head by its letter.
 fn push_shape(out: &mut [u8], at: usize, letter: u8, x: u32, y: u32) -> usize

@@ -1,6 +1,6 @@
 -- What the proofs of the functions cite.
 pub mod Appends
+pub mod Adding
 pub mod Numbers
-pub mod Buffers
 pub mod Pairs
 pub mod Tables

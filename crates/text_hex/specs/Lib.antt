@@ -2,4 +2,5 @@
 pub mod Text
 pub mod Print
 pub mod Appended
+pub mod Added
 pub mod Pairs

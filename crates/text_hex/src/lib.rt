@@ -2,4 +2,6 @@
 #![tactic(auto)]
 
 pub mod digits; // numbers in the lines of the input
-pub mod print; // buffers and answers into a lent buffer
+pub mod hex; // the two digits of a byte
+pub mod print; // the same by a buffer and a place
+pub mod text; // text into a lent buffer

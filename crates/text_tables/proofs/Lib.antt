@@ -1,5 +1,4 @@
 -- What the proofs of the functions cite.
-pub mod Copied
 pub mod Printing
 pub mod Digits
 pub mod ReadBack

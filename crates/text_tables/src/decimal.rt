@@ -1,9 +1,9 @@
-// Numbers in decimal digits, put at `at` of a lent buffer.
-ghost use Rattle.std.specs.Prelude.{◌+◌, ◌≤◌, ◌<◌, ◌≡◌, length};
-ghost use Rattle.text_hex.specs.Appended.{Appended};
+// Numbers in decimal digits.
+ghost use Rattle.std.specs.Prelude.{◌+◌, ◌<◌, ◌≡◌};
+ghost use Rattle.text_hex.specs.Added.{Room, Added};
 ghost use Rattle.text_tables.specs.Decimal.{digits};
 
-use text_hex::print::push;
+use text_hex::text::Text;
 
 // The character of a digit.
 fn digit(d: u64) -> u8
@@ -13,17 +13,18 @@ fn digit(d: u64) -> u8
     (d + 48) as u8
 }
 
-// The last k digits at most: those of the tenth first, then the one that is left over. Says where they end.
-pub fn push_digits(out: &mut [u8], at: usize, k: usize, n: u64) -> usize
-    requires { at + k ≤ length out.old }
-    ensures { Appended out.old at (digits k n) k out.new result }
+// The last k digits at most: those of the tenth first, then the one that is left over.
+pub fn push_digits(text: &mut Text, k: usize, n: u64)
+    requires { Room k text.old }
+    ensures { Added text.old (digits k n) k text.new }
 {
     if k == 0 {
-        return at;
+        return;
     }
     if n < 10 {
-        return push(out, at, digit(n));
+        text.push(digit(n));
+        return;
     }
-    let a = push_digits(out, at, k - 1, n / 10);
-    push(out, a, digit(n % 10))
+    push_digits(text, k - 1, n / 10);
+    text.push(digit(n % 10));
 }

@@ -1,6 +1,6 @@
 -- `all_digits`: the loop's invariant is that `so_far` and the digits still to come decide it for all;
 -- `digit_more` of proofs/Pairs.antt takes in one byte and `digits_end` closes it.
-use Rattle.std.proofs.Common.{sym, ◌∙◌, arith}
+use Rattle.std.proofs.Common.{sym, ◌∙◌}
 use Rattle.text_hex.proofs.Pairs.{digit_more, digits_end}
 use Rattle.text_hex.proofs.digits.all_digits.Goals as goal
 

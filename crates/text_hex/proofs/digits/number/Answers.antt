@@ -1,7 +1,7 @@
 -- `number`: the loop's invariant: the first i bytes write v, and v is below 2 ^ (4 * i), so that 8 digits fit
 -- a u32 (`wider`, `below`). `one_more` adds a digit; at a byte that is none, `no_more` and `never`
 -- (proofs/Numbers.antt) say that the rest cannot make it a number.
-use Rattle.std.proofs.Common.{◌≡◌, ◌+◌, ◌∙◌, refl, sym, lit<, Some, None, arith, get_or}
+use Rattle.std.proofs.Common.{◌≡◌, ◌+◌, ◌∙◌, refl, sym, lit<, None, arith, get_or}
 use Rattle.text_hex.specs.Text.{digit_in, number_at}
 use Rattle.text_hex.proofs.Numbers.{is_digit, no_digit, one_more, no_more, never, wider, below}
 use Rattle.text_hex.proofs.digits.number.Goals as goal
@@ -23,8 +23,8 @@ returns-in_err-d c =
     let a = c.args in
     let none : digit_in (get_or a.line.now (a.at + c.loop-i.i) 0) ≡ None = sym c.digit.ensures ∙ c.in_err-d.was in
     let end : number_at a.line.now a.at a.n ≡ None =
-        never a.line.now a.at (c.loop-i.i + 1) a.n
-            (no_more a.line.now a.at c.loop-i.i c.loop-i.v _ c.loop-i.invariant.same refl (no_digit _ none)) (omega arith) in
+    never a.line.now a.at (c.loop-i.i + 1) a.n
+    (no_more a.line.now a.at c.loop-i.i c.loop-i.v _ c.loop-i.invariant.same refl (no_digit _ none)) (omega arith) in
     rw c.from_residual.ensures (record { same = sym end; below = tt })
 
 pub loop-i-preserved : goal.loop-i-preserved

@@ -1,2 +1,0 @@
--- An entry on its way to text.
-pub mod Inner
