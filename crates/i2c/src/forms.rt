@@ -14,6 +14,7 @@ ghost use Rattle.transfer.specs.Inner.Machine.{machine, started};
 use super::limits::{are_fitting, is_fitting, is_listed, refuse};
 use regs::access::Ran;
 use transfer::Mode;
+use transfer_code::code::Message;
 use transfer_code::settle::settle;
 use transfer_run::drive;
 
@@ -53,7 +54,14 @@ impl Way {
         let t = transfer_steps::start(self.mode, restart, self.address, kinds);
         let ran = drive(t, self.coded, kinds, lengths, write, readings, log, read);
         if self.coded {
-            settle(ran, self.address, kinds, lengths, write, read, log)
+            let message = Message {
+                address: self.address,
+                kinds,
+                lengths,
+                write,
+                read: &*read,
+            };
+            settle(ran, &message, log)
         } else {
             ran
         }

@@ -10,12 +10,13 @@ use Rattle.regs.specs.declared.answers.Answer.TheVariants.{Accepted, Heard, Resp
 use Rattle.regs.specs.declared.answers.Refusal.TheVariants.{WrongPacketErrorCode}
 use Rattle.regs.specs.declared.answers.Reply.{Reply}
 use Rattle.regs.specs.declared.answers.Reply.TheVariants.{Answered, OutOfReadings, LogFull}
+use Rattle.std.specs.Prelude.{None, Some}
 use Rattle.regs.specs.Fields.{dat}
 use Rattle.regs.proofs.Tests.{false_true}
 use Rattle.master.specs.CodedLaws.{tested_reply}
 use Rattle.transfer_code.specs.Inner.Settling.{is_accepted, replied, wrong, tested_ran}
 use Rattle.transfer_code.specs.Inner.Settling.{last_at, with_code_at, Settled}
-use Rattle.transfer_code.specs.declared.settle.LastAt.TheVariants.{Nowhere, Got, Put}
+use Rattle.transfer_code.specs.declared.settle.DataAt.TheVariants.{Got, Put}
 
 right_reply : (r : Reply) → tested_reply true r ≡ r
 right_reply (Answered Accepted) = refl
@@ -52,15 +53,15 @@ module _ (ran : Ran) (q : Bool) where
   is_other h = sym (ap (λ (r : Reply). replied r ran) (other_reply q ran.reply h))
 
 module _ {c : ℕ} {from : Ran} {before : List ℕ} where
-  pub settled_nowhere : Nowhere ≡ last_at before from.entries → Settled c from before from before
+  pub settled_nowhere : None ≡ last_at before from.entries → Settled c from before from before
   settled_nowhere e = record { ran = rw (← e); log = rw (← e) }
 
-  pub settled_got : {k : ℕ} {to : Ran} → Got k ≡ last_at before from.entries
+  pub settled_got : {k : ℕ} {to : Ran} → Some (Got k) ≡ last_at before from.entries
       → to ≡ tested_ran (eqb (dat (get_or before (k * 2 + 1) 0)) c) from
       → Settled c from before to before
   settled_got e h = record { ran = rw (← e) h; log = rw (← e) }
 
-  pub settled_put : {k : ℕ} {after : List ℕ} → Put k ≡ last_at before from.entries
+  pub settled_put : {k : ℕ} {after : List ℕ} → Some (Put k) ≡ last_at before from.entries
       → after ≡ with_code_at c before k
       → Settled c from before from after
   settled_put e h = record { ran = rw (← e); log = rw (← e) h }

@@ -5,11 +5,13 @@ use native.Mathlib.Numerals.{add-one}
 use native.Mathlib.Omega.{arith}
 use mathlib.Core.Bool.{true, false, ◌||◌}
 use mathlib.Core.List.{List, ◌∷◌, ◌++◌}
-use mathlib.Core.Path.{◌≡◌, sym, ap, ◌∙◌}
+use mathlib.Core.Path.{◌≡◌, refl, sym, ap, ◌∙◌}
 use lib.Dec.{eqb, leb}
 use lib.ListN.{length, get_or, take, drop, drop_of_length-le}
 use lib.Seq.{drop-cons, drop-drop}
-use borrow.Author.Tests.{eq-eqb, ne_eqb, eqb-true}
+use borrow.Author.Tests.{ne_eqb, eqb-true}
+use Rattle.std.specs.Prelude.{Option, None, Some}
+use Rattle.std.specs.Option.{option_eq}
 use Rattle.crc8.specs.Crc8.{after_byte, crc8_from}
 use Rattle.crc8.proofs.Laws.{in_parts}
 use Rattle.crc8.proofs.Back.{low_byte}
@@ -18,14 +20,34 @@ use Rattle.master.specs.Operations.{listed, total, known, lists, READ, WRITE}
 use Rattle.master.specs.Coded.{code_of}
 use Rattle.master.specs.Inner.Message.{opened, message_from}
 use Rattle.master.proofs.MessageFrom.{message_is}
-use Rattle.transfer_code.specs.Inner.Coding.{low_address, over_nothing, Room, with_operation}
+use Rattle.transfer_code.specs.Inner.Coding.{direction_of, last_number, number, low_address, over_nothing, Room, with_operation}
 use Rattle.transfer_code.specs.declared.code.Coding.{Coding}
+use Rattle.transfer_code.specs.declared.code.Direction.{Direction}
+use Rattle.transfer_code.specs.declared.code.Direction.TheVariants.{Read, Write}
+use Rattle.transfer_code.specs.contracts.code.DirectionPartialEq.TheImpl as equality
 
--- the address byte, where the operation before is of another kind
-pub opened_other : (crc address last kind : ℕ) → (last ≡ kind → ⊥)
-    → after_byte crc (low_address address kind) ≡ crc8_from crc (opened address last kind)
+-- behind an operation of the same direction there is no address byte
+pub opened_same : (crc address : ℕ) (direction : Direction) (last : Option Direction)
+    → option_eq (equality.eq-value).it last (Some direction) ≡ true
+    → crc ≡ crc8_from crc (opened address (last_number last) (number direction))
 unfolding crc8_from
-opened_other crc address last kind h = rw (ne_eqb last kind h) (low_byte crc _)
+opened_same crc address d None h = absurd (false_true h)
+opened_same crc address Read (Some Read) h = refl
+opened_same crc address Read (Some Write) h = absurd (false_true h)
+opened_same crc address Write (Some Read) h = absurd (false_true h)
+opened_same crc address Write (Some Write) h = refl
+
+-- and else there is
+pub opened_other : (crc address : ℕ) (direction : Direction) (last : Option Direction)
+    → option_eq (equality.eq-value).it last (Some direction) ≡ false
+    → after_byte crc (low_address address (number direction)) ≡ crc8_from crc (opened address (last_number last) (number direction))
+unfolding crc8_from
+opened_other crc address Read None h = low_byte crc _
+opened_other crc address Write None h = low_byte crc _
+opened_other crc address Read (Some Read) h = absurd (false_true (sym h))
+opened_other crc address Read (Some Write) h = low_byte crc _
+opened_other crc address Write (Some Read) h = low_byte crc _
+opened_other crc address Write (Some Write) h = absurd (false_true (sym h))
 
 -- the register before a part and the part behind it
 behind : (r : ℕ) (a b m : List ℕ) → crc8_from r (a ++ (b ++ m)) ≡ crc8_from (crc8_from (crc8_from r a) b) m
@@ -35,7 +57,7 @@ module _ (address : ℕ) (kinds lengths write read : List ℕ) where
   -- the message of what is left
   abbrev left : Coding → ℕ → List ℕ
   left c i =
-      message_from address c.last (listed (drop i kinds) (drop i lengths) (drop c.sent write)) (drop c.came read)
+      message_from address (last_number c.last) (listed (drop i kinds) (drop i lengths) (drop c.sent write)) (drop c.came read)
 
   -- what holds after i operations
   pub record Going (c : Coding) (i : ℕ) : Type 0 where
@@ -110,29 +132,28 @@ module _ (address : ℕ) (kinds lengths write read : List ℕ) where
     came_else q = rw (kinds_left i h, lengths_left i (omega (arith, g.as_many)), not_read q) at g.reads_fit
 
     -- its bytes are there
-    pub room : {m : ℕ} → m ≡ n → Room c kind m (length write) (length read)
-    room e =
-        (λ y. omega (arith, written (eq-eqb kind WRITE y)), λ y. omega (arith, came (ne_eqb kind WRITE y)))
+    pub room : {m : ℕ} → m ≡ n → Room c (direction_of kind) m (length write) (length read)
+    room e = by_test (eqb kind WRITE) (λ q. rw q (omega (arith, written q))) (λ q. rw q (omega (arith, came q)))
 
     -- the message of what is left, by its first operation
     left_write : eqb kind WRITE ≡ true
-        → left c i ≡ opened address c.last WRITE ++ (take n (drop c.sent write)
+        → left c i ≡ opened address (last_number c.last) WRITE ++ (take n (drop c.sent write)
         ++ message_from address WRITE (listed ks ls (drop (c.sent + n) write)) (drop c.came read))
     unfolding listed message_from
     left_write q = rw (kinds_left i h, lengths_left i (omega (arith, g.as_many)), q, ← drop-drop n c.sent write)
 
     left_read : eqb kind WRITE ≡ false
-        → left c i ≡ opened address c.last READ ++ (take n (drop c.came read)
+        → left c i ≡ opened address (last_number c.last) READ ++ (take n (drop c.came read)
         ++ message_from address READ (listed ks ls (drop c.sent write)) (drop (c.came + n) read))
     unfolding listed message_from
     left_read q = rw (kinds_left i h, lengths_left i (omega (arith, g.as_many)), q, ← drop-drop n c.came read)
 
     -- it is taken in
-    taken_in : Going (with_operation address c kind n write read) (i + 1)
+    taken_in : Going (with_operation address c (direction_of kind) n write read) (i + 1)
     unfolding with_operation
     taken_in = by_test (eqb kind WRITE)
         (λ q. rw q (record {
-          same = sym (behind c.crc (opened address c.last WRITE) (take n (drop c.sent write)) _)
+          same = sym (behind c.crc (opened address (last_number c.last) WRITE) (take n (drop c.sent write)) _)
               ∙ ap (crc8_from c.crc) (sym (left_write q)) ∙ g.same;
           within = omega arith;
           as_many = g.as_many;
@@ -141,7 +162,7 @@ module _ (address : ℕ) (kinds lengths write read : List ℕ) where
           reads_fit = came_else q;
         }))
         (λ q. rw q (record {
-          same = sym (behind c.crc (opened address c.last READ) (take n (drop c.came read)) _)
+          same = sym (behind c.crc (opened address (last_number c.last) READ) (take n (drop c.came read)) _)
               ∙ ap (crc8_from c.crc) (sym (left_read q)) ∙ g.same;
           within = omega arith;
           as_many = g.as_many;
@@ -150,7 +171,7 @@ module _ (address : ℕ) (kinds lengths write read : List ℕ) where
           reads_fit = omega (arith, came q);
         }))
 
-    pub gone : {m : ℕ} {c' : Coding} → m ≡ n → c' ≡ with_operation address c kind m write read → Going c' (i + 1)
+    pub gone : {m : ℕ} {c' : Coding} → m ≡ n → c' ≡ with_operation address c (direction_of kind) m write read → Going c' (i + 1)
     gone e e' = rw (e', e) taken_in
 
   -- none is left

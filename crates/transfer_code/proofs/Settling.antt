@@ -16,7 +16,7 @@ use Rattle.regs.specs.Registers.{DATA_CMD, legal_read}
 use Rattle.regs.specs.Fields.{command_word, cmd, stop}
 use Rattle.regs.specs.Log.{encode, reads_in, Legal, Each, Leaves, LeavesBuffer}
 use Rattle.regs.specs.Program.{Outcome}
-use Rattle.std.specs.Prelude.{if◌then◌else◌}
+use Rattle.std.specs.Prelude.{if◌then◌else◌, Option, None, Some}
 use Rattle.regs.proofs.Refine.{length_encode}
 use Rattle.regs.proofs.Tests.{by_test}
 use Rattle.master.specs.Operations.{Operation}
@@ -25,16 +25,16 @@ use Rattle.master.specs.CodedLaws.{tested_reply}
 use Rattle.master.specs.Inner.Settled.{LastData, none, got, put, last_data, with_word, put_here, put_last}
 use Rattle.master.specs.Inner.Settled.{settled_by, settled}
 use Rattle.transfer_code.specs.Inner.Settling.{last_at, ran_by, log_by, Settled}
-use Rattle.transfer_code.specs.declared.settle.LastAt.{LastAt}
-use Rattle.transfer_code.specs.declared.settle.LastAt.TheVariants.{Nowhere, Got, Put}
+use Rattle.transfer_code.specs.declared.settle.DataAt.{DataAt}
+use Rattle.transfer_code.specs.declared.settle.DataAt.TheVariants.{Got, Put}
 
 -- ---- one entry in front
 
 -- the last access with an entry of this head in front
-abbrev pushed : ℕ → LastAt → LastAt
-pushed h Nowhere = if eqb h 0x110 then Got 0 else (if eqb h 0x210 then Put 0 else Nowhere)
-pushed h (Got k) = Got (suc k)
-pushed h (Put k) = Put (suc k)
+abbrev pushed : ℕ → Option DataAt → Option DataAt
+pushed h None = if eqb h 0x110 then Some (Got 0) else (if eqb h 0x210 then Some (Put 0) else None)
+pushed h (Some (Got k)) = Some (Got (suc k))
+pushed h (Some (Put k)) = Some (Put (suc k))
 
 last_pushed : (h v : ℕ) (ws : List ℕ) (n : ℕ) → last_at (h ∷ v ∷ ws) (suc n) ≡ pushed h (last_at ws n)
 unfolding last_at
@@ -72,13 +72,13 @@ module _ (rest : List ℕ) where
   words es = encode es ++ rest
 
   -- what the place in the words says of the entries
-  abbrev Agrees : List Entry → LastAt → Type 0
-  Agrees es Nowhere = last_data es ≡ none
-  Agrees es (Got k) = last_data es ≡ got (get_or (words es) (k * 2 + 1) 0)
-  Agrees es (Put k) = (last_data es ≡ put (get_or (words es) (k * 2 + 1) 0))
+  abbrev Agrees : List Entry → Option DataAt → Type 0
+  Agrees es None = last_data es ≡ none
+  Agrees es (Some (Got k)) = last_data es ≡ got (get_or (words es) (k * 2 + 1) 0)
+  Agrees es (Some (Put k)) = (last_data es ≡ put (get_or (words es) (k * 2 + 1) 0))
       × ((c : ℕ) → words (put_last c es) ≡ set (words es) (k * 2 + 1) (command_word c false true false))
 
-  here : (e : Entry) (es : List Entry) → Legal e → last_data es ≡ none → Agrees (e ∷ es) (pushed (head e) Nowhere)
+  here : (e : Entry) (es : List Entry) → Legal e → last_data es ≡ none → Agrees (e ∷ es) (pushed (head e) None)
   unfolding last_data put_last
   here (Read r v) es h e =
       by_test (eqb r DATA_CMD)
@@ -106,13 +106,13 @@ module _ (rest : List ℕ) where
   here (Marked x) es h e =
       rw (ne_eqb (0x300 + x) 0x110 (λ z. omega arith), ne_eqb (0x300 + x) 0x210 (λ z. omega arith), e)
 
-  agrees_pushed : (e : Entry) (es : List Entry) → Legal e → (l : LastAt) → Agrees es l → Agrees (e ∷ es) (pushed (head e) l)
+  agrees_pushed : (e : Entry) (es : List Entry) → Legal e → (l : Option DataAt) → Agrees es l → Agrees (e ∷ es) (pushed (head e) l)
   unfolding last_data put_last
-  agrees_pushed e es h Nowhere a = here e es h a
-  agrees_pushed e es h (Got k) a =
+  agrees_pushed e es h None a = here e es h a
+  agrees_pushed e es h (Some (Got k)) a =
       let p : suc k * 2 + 1 ≡ suc (suc (k * 2 + 1)) = omega arith in
       rw (a, encode_cons e es, p)
-  agrees_pushed e es h (Put k) a =
+  agrees_pushed e es h (Some (Put k)) a =
       let p : suc k * 2 + 1 ≡ suc (suc (k * 2 + 1)) = omega arith in (
         rw (a.0, encode_cons e es, p),
         λ c. rw (a.0, encode_cons e (put_last c es), encode_cons e es, p, a.1 c),
@@ -169,21 +169,21 @@ reads_put c (e ∷ es) = reads_here c (last_data es) e es (put_last c es) (reads
 abbrev lent : Outcome (Unit {0}) Reply → List ℕ → List ℕ
 lent o before = encode o.log ++ drop (length o.log * 2) before
 
-settled_leaves : (c : ℕ) {o : Outcome (Unit {0}) Reply} {before after : List ℕ} {from to : Ran} (l : LastAt)
+settled_leaves : (c : ℕ) {o : Outcome (Unit {0}) Reply} {before after : List ℕ} {from to : Ran} (l : Option DataAt)
     → Agrees (drop (length o.log * 2) before) o.log l
     → Leaves o before (lent o before) from
     → to ≡ ran_by c (lent o before) from l
     → after ≡ log_by c (lent o before) l
     → Leaves (settled_by c (last_data o.log) o) before after to
-settled_leaves c Nowhere a left e e' = rw (a, e, e') left
-settled_leaves c (Got k) a left e e' =
+settled_leaves c None a left e e' = rw (a, e, e') left
+settled_leaves c (Some (Got k)) a left e e' =
     rw a (record {
       reply = ap (λ (r : Ran). r.reply) e ∙ ap (tested_reply _) left.reply;
       entries = ap (λ (r : Ran). r.entries) e ∙ left.entries;
       used = ap (λ (r : Ran). r.used) e ∙ left.used;
       log = e';
     })
-settled_leaves c {o} {before} (Put k) a left e e' =
+settled_leaves c {o} {before} (Some (Put k)) a left e e' =
     let w : ℕ = get_or (lent o before) (k * 2 + 1) 0 in
     rw a.0 (by_test (stop w && not (cmd w))
     (λ q. rw q (record {

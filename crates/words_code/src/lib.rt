@@ -1,100 +1,84 @@
-// The packet error code of a transfer by steps. Its caller holds it as two bytes beside the words: the CRC-8
+// The packet error code of a transfer by steps. Its caller in C holds it as two bytes beside the words: the CRC-8
 // register, and the direction of the last data byte (0 read, 1 written; any other: there was none).
 #![tactic(auto)]
 
-ghost use Rattle.std.specs.Prelude.{◌≡◌, length};
+ghost use Rattle.std.specs.Prelude.{◌≡◌};
 ghost use Rattle.master.specs.Inner.Running.{with_byte};
-ghost use Rattle.words_code.specs.Inner.Code.{sum, fresh_sum, sum_in, word_by, number_by};
+ghost use Rattle.transfer_code.specs.Inner.Coding.{number};
+ghost use Rattle.words_code.specs.Inner.Code.{before, fresh_sum, sum_in, word_by, number_by};
 ghost use Rattle.words_code.specs.Inner.Code.{fed_by};
 
 use regs::DATA_CMD;
 use regs::fields::{byte_of, has_stop, is_read, word_of};
-use transfer_code::code::opening;
+use transfer_code::code::Direction;
 
-const CRC: usize = 0;
-
-const LAST: usize = 1;
-
-fn length_of(s: &[u8]) -> usize
-    ensures { result ≡ length s.now }
+// The direction of the last data byte by its number.
+fn before(last: u8) -> Option<Direction>
+    ensures { result ≡ before last }
 {
-    s.len()
-}
-
-// Proofs want the number of the bytes, which an array tells where it is lent as a slice.
-fn sized(code: &[u8; 2])
-    ensures { length code.now ≡ 2 }
-{
-    let _n = length_of(code);
-}
-
-fn put(code: &mut [u8; 2], crc: u8, last: u8)
-    ensures { sum_in code.new ≡ sum crc last }
-{
-    sized(code);
-    code[CRC] = crc;
-    code[LAST] = last;
+    match last {
+        0 => Some(Direction::Read),
+        1 => Some(Direction::Write),
+        _ => None,
+    }
 }
 
 // Before the first byte.
+#[tactic(auto, unfolding(crate::specs::Inner::Code::sum_in))]
 pub fn start(code: &mut [u8; 2])
     ensures { sum_in code.new ≡ fresh_sum }
 {
-    put(code, 0, 2);
+    *code = [0, 2];
 }
 
 // What is written in place of a word: the word with STOP of a write carries the code.
+#[tactic(auto, unfolding(crate::specs::Inner::Code::sum_in, crate::specs::Inner::Code::word_by))]
 pub fn word(code: &[u8; 2], register: u8, w: u32) -> u32
     ensures { result ≡ word_by (sum_in code.now) register w }
 {
-    if register == DATA_CMD {
-        if has_stop(w) {
-            if is_read(w) {
-                return w;
-            }
-            return word_of(code[CRC], false, true, false);
-        }
+    let [crc, _] = *code;
+    if register == DATA_CMD && has_stop(w) && !is_read(w) {
+        word_of(crc, false, true, false)
+    } else {
+        w
     }
-    w
 }
 
 // The number told at the end: accepted (number and detail 0) becomes 22 where the register is not 0.
+#[tactic(auto, unfolding(crate::specs::Inner::Code::sum_in, crate::specs::Inner::Code::number_by))]
 pub fn number(code: &[u8; 2], n: u8, detail: u32) -> u8
     ensures { result ≡ number_by (sum_in code.now) n detail }
 {
-    if n == 0 {
-        if detail == 0 {
-            if code[CRC] == 0 {
-                return n;
-            }
-            return 22;
-        }
+    let [crc, _] = *code;
+    if n == 0 && detail == 0 && crc != 0 {
+        22
+    } else {
+        n
     }
-    n
 }
 
 // Takes in a data byte of this direction, after the address byte where the direction has changed.
-fn take_byte(code: &mut [u8; 2], address: u16, kind: u8, b: u8)
-    ensures { sum_in code.new ≡ with_byte address (sum_in code.old) kind b }
+fn take_byte(code: &mut [u8; 2], address: u16, direction: Direction, b: u8)
+    ensures { sum_in code.new ≡ with_byte address (sum_in code.old) (number direction) b }
 {
-    let crc = opening(code[CRC], address, code[LAST], kind);
-    put(code, crc8::next(crc, b), kind);
+    let [crc, last] = *code;
+    let opened = direction.opening(crc, address, before(last));
+    *code = [crc8::next(opened, b), u8::from(direction)];
 }
 
 // Takes an access that was made, as it was told, into the code: a byte received (kind 1), or the byte of a
 // written word (kind 2; in the word with STOP, the code itself). Words that ask for a byte are left out.
+// The kinds are the numbers that programs in C are told.
+#[tactic(auto, unfolding(crate::specs::Inner::Code::fed_by))]
 pub fn feed(code: &mut [u8; 2], address: u16, kind: u8, register: u8, word: u32, read: u32)
     ensures { sum_in code.new ≡ fed_by address (sum_in code.old) kind register
         word read }
 {
     if register == DATA_CMD {
         if kind == 1 {
-            take_byte(code, address, 0, byte_of(read));
-        } else if kind == 2 {
-            if is_read(word) {
-                return;
-            }
-            take_byte(code, address, 1, byte_of(word));
+            take_byte(code, address, Direction::Read, byte_of(read));
+        } else if kind == 2 && !is_read(word) {
+            take_byte(code, address, Direction::Write, byte_of(word));
         }
     }
 }

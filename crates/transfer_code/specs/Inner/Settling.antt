@@ -1,6 +1,7 @@
 -- What becomes of a run, on the words of its log: by the last access to DATA_CMD the code is put there or tested.
 -- That this is what `settled` of master says of the outcome is `settle_leaves` (proofs/Settling.antt).
-use Rattle.std.specs.Prelude.{ℕ, zero, suc, ◌+◌, ◌*◌, Bool, true, false, not, ◌&&◌, List, ◌≡◌, eqb, get_or, set, if◌then◌else◌}
+use Rattle.std.specs.Prelude.{ℕ, zero, suc, ◌+◌, ◌*◌, ◌<◌, Bool, true, false, not, ◌&&◌, List, ◌≡◌, eqb, get_or, set, if◌then◌else◌}
+use Rattle.std.specs.Prelude.{Option, None, Some}
 use Rattle.regs.specs.declared.access.Ran.{Ran}
 use Rattle.regs.specs.declared.answers.Answer.TheVariants.{Accepted, Heard, Responded, Refused}
 use Rattle.regs.specs.declared.answers.Refusal.TheVariants.{WrongPacketErrorCode}
@@ -8,14 +9,21 @@ use Rattle.regs.specs.declared.answers.Reply.{Reply}
 use Rattle.regs.specs.declared.answers.Reply.TheVariants.{Answered, OutOfReadings, LogFull}
 use Rattle.regs.specs.Fields.{command_word, cmd, stop, dat}
 use Rattle.master.specs.CodedLaws.{tested_reply}
-use Rattle.transfer_code.specs.declared.settle.LastAt.{LastAt}
-use Rattle.transfer_code.specs.declared.settle.LastAt.TheVariants.{Nowhere, Got, Put}
+use Rattle.transfer_code.specs.declared.settle.DataAt.{DataAt}
+use Rattle.transfer_code.specs.declared.settle.DataAt.TheVariants.{Got, Put}
 
 -- the last access to DATA_CMD among the first entries of a log; the head of a read of it is 0x110, of a write 0x210
-unfoldable pub last_at : List ℕ → ℕ → LastAt
-last_at log zero = Nowhere
+unfoldable pub last_at : List ℕ → ℕ → Option DataAt
+last_at log zero = None
 last_at log (suc k) =
-    if eqb (get_or log (k * 2) 0) 0x110 then Got k else (if eqb (get_or log (k * 2) 0) 0x210 then Put k else last_at log k)
+    if eqb (get_or log (k * 2) 0) 0x110 then Some (Got k)
+    else (if eqb (get_or log (k * 2) 0) 0x210 then Some (Put k) else last_at log k)
+
+-- the entry is one of so many
+abbrev pub IsWithin : ℕ → Option DataAt → Type 0
+IsWithin entries None = Unit {0}
+IsWithin entries (Some (Got k)) = k < entries
+IsWithin entries (Some (Put k)) = k < entries
 
 abbrev pub is_accepted : Reply → Bool
 is_accepted (Answered Accepted) = true
@@ -42,15 +50,15 @@ with_code_at c log k =
     then set log (k * 2 + 1) (command_word c false true false) else log
 
 -- by the last access
-abbrev pub ran_by : ℕ → List ℕ → Ran → LastAt → Ran
-ran_by c log ran Nowhere = ran
-ran_by c log ran (Got k) = tested_ran (eqb (dat (get_or log (k * 2 + 1) 0)) c) ran
-ran_by c log ran (Put k) = ran
+abbrev pub ran_by : ℕ → List ℕ → Ran → Option DataAt → Ran
+ran_by c log ran None = ran
+ran_by c log ran (Some (Got k)) = tested_ran (eqb (dat (get_or log (k * 2 + 1) 0)) c) ran
+ran_by c log ran (Some (Put k)) = ran
 
-abbrev pub log_by : ℕ → List ℕ → LastAt → List ℕ
-log_by c log Nowhere = log
-log_by c log (Got k) = log
-log_by c log (Put k) = with_code_at c log k
+abbrev pub log_by : ℕ → List ℕ → Option DataAt → List ℕ
+log_by c log None = log
+log_by c log (Some (Got k)) = log
+log_by c log (Some (Put k)) = with_code_at c log k
 
 -- a run and its log with the code c, from the run with 0
 pub record Settled (c : ℕ) (from : Ran) (before : List ℕ) (to : Ran) (after : List ℕ) : Type 0 where

@@ -1,10 +1,7 @@
--- `last_data`: the loop's invariant `Searching` (proofs/LastAt.antt): the access that is looked for is among the
--- first k entries, whose words are within the log; k decreases.
-use Rattle.transfer_code.proofs.LastAt.{Searching}
+-- `last_data`: the access that is looked for is among the first k entries.
+use mathlib.Core.Path.{◌≡◌}
+use Rattle.transfer_code.specs.Inner.Settling.{last_at}
 use Rattle.transfer_code.proofs.settle.last_data.Given as goal
 
 abbrev pub invariant-loop-k : goal.invariant-loop-k
-invariant-loop-k l = Searching l.log l.entries l.k
-
-abbrev pub decreases-loop-k : goal.decreases-loop-k
-decreases-loop-k l = l.k
+invariant-loop-k l = last_at l.log l.k ≡ last_at l.log l.entries

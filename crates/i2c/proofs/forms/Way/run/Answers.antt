@@ -5,13 +5,14 @@ use Rattle.i2c.proofs.WithCode.{entries_fit, coded_leaves}
 use native.Mathlib.Omega.{arith}
 use Rattle.i2c.proofs.forms.Way.run.Goals as goal
 
+pub invariant_of-message : goal.invariant_of-message
+invariant_of-message c = record { listed = rw c.drive-ran.auto.buffer c.requires }
+
 pub settle-requires : goal.settle-requires
-settle-requires c = let args = c.args in let way = args.self in (
-  rw c.drive-ran.auto.buffer c.requires,
-  entries_fit way.mode args.restart way.address args.kinds.now args.lengths.now
-      args.write.now args.readings.now args.log.now _ args.read.now _ c.requires
-      c.start-t.ensures (rw c.if-self.true at c.drive-ran.ensures),
-)
+settle-requires c = let args = c.args in let way = args.self in
+    entries_fit way.mode args.restart way.address args.kinds.now args.lengths.now
+    args.write.now args.readings.now args.log.now _ args.read.now _ c.requires
+    c.start-t.ensures (rw c.if-self.true at c.drive-ran.ensures)
 
 pub returns-then-self-clause-coded : goal.returns-then-self-clause-coded
 returns-then-self-clause-coded c = λ is. let args = c.args in let way = args.self in
