@@ -2,8 +2,26 @@
 // its states to another; here are the entries that a part of it puts into the log.
 #![tactic(auto)]
 
-ghost use Rattle.std.specs.Prelude.{◌≡◌, ◌+◌, ◌/◌, ◌<◌, length};
+ghost use Rattle.std.specs.Prelude.{true, ◌≡◌, ◌+◌, ◌/◌, ◌<◌, ◌≤◌, length};
 ghost use Rattle.regs.specs.Inner.Machine.{entered};
+ghost use Rattle.regs.specs.Inner.Recording.{room_of};
+
+use regs::access::Recording;
+
+// Whether a recording has so many more readings, and room for so many more entries.
+pub fn has(recording: &Recording, readings: usize, entries: usize) -> bool
+    requires { recording.now.entries ≤ room_of recording.now }
+    ensures { result ≡ true
+        → (recording.now.used + readings ≤ length recording.now.readings.now)
+        × (recording.now.entries + entries ≤ room_of recording.now) }
+{
+    let has_readings = recording
+        .readings
+        .len()
+        .checked_sub(recording.used)
+        .is_some_and(|left| readings <= left);
+    has_readings && entries <= recording.log.len() / 2 - recording.entries
+}
 
 // Entry k of a log.
 fn put(log: &mut [u32], k: usize, head: u32, v: u32)

@@ -6,7 +6,7 @@ use mathlib.Core.Bool.{true, false, not, ◌&&◌}
 use mathlib.Core.List.{List}
 use mathlib.Core.Path.{◌≡◌, refl}
 use lib.Dec.{eqb}
-use lib.ListN.{length, get_or, set, length-set}
+use lib.ListN.{length, get_or, set}
 use borrow.Author.Tests.{lt-ltb, not-true}
 use Rattle.regs.proofs.Tests.{both_of}
 use Rattle.regs.specs.Registers.{STATUS, DATA_CMD}
@@ -19,8 +19,10 @@ use Rattle.slave_steps.specs.declared.Slave.{Slave}
 use Rattle.slave_steps.specs.declared.Point.TheVariants.{Listening}
 use Rattle.regs_runs.specs.Inner.Reaches.{Reaches}
 use Rattle.regs_runs.proofs.Reach.{stays, did_read}
-use Rattle.regs_runs.proofs.Turns.{Turns, turn}
-use Rattle.slave_fast_bytes.specs.Inner.Bursts.{Drains, ForAny, straight_byte}
+use Rattle.regs.specs.declared.access.Recording.{Recording}
+use Rattle.regs_runs.specs.Inner.Puts.{Puts}
+use Rattle.slave_fast_bytes.specs.declared.listen.Message.{Message}
+use Rattle.slave_fast_bytes.specs.Inner.Bursts.{Drains, straight_byte}
 
 module _ (bytes : List ℕ) {readings : List ℕ} (me : SlaveState) {s₀ : Slave} {e₀ u₀ : ℕ} {l₀ b₀ : List ℕ}
     (places stat i : ℕ) {e u : ℕ} {l b : List ℕ} where
@@ -48,45 +50,28 @@ module _ (bytes : List ℕ) {readings : List ℕ} (me : SlaveState) {s₀ : Slav
       ≡ Some (i, dat (get_or readings (u + 1) 0)) = rw (this, lt-ltb i places (omega (arith, more))) in
       rw w at (did_read g₁ refl (omega (arith, room)) (omega (arith, left)) a₂ q v)
 
--- how far the bytes came
-abbrev pub Came : ℕ → List ℕ → ℕ → ℕ → ℕ → List ℕ → List ℕ → ℕ → ℕ → ℕ → List ℕ → List ℕ → Type 0
-Came places readings from entries used l₀ b₀ i u k l b =
-    ForAny (λ (stat : ℕ). Drains places readings stat from entries used l₀ b₀ stat i k u l b)
-
--- the loop's head
-abbrev pub Draining : ℕ → ℕ → List ℕ → ℕ → List ℕ → ℕ → List ℕ → List ℕ → List ℕ → ℕ → ℕ → ℕ → ℕ → Type 0
-Draining from places readings used l₀ entries b₀ l b n i u k =
-    Turns (Came places readings from entries used l₀ b₀) 2 2 places 0 readings l₀ b₀ l b n i u k × (entries ≤ k)
-
-pub drain_none : {places : ℕ} {readings : List ℕ} {from entries used : ℕ} {l b : List ℕ}
-    → entries ≤ length l / 2
-    → length l < 2 ^ 64
-    → Came places readings from entries used l b from used entries l b
-drain_none {readings = readings} has fits = λ stat. record { reaches = λ bytes me none. stays (machine bytes) readings has fits }
-
-pub drain_next : {from places : ℕ} {readings : List ℕ} {used : ℕ} {l₀ : List ℕ} {entries : ℕ} {b₀ l b : List ℕ} {n i u k : ℕ}
-    → Draining from places readings used l₀ entries b₀ l b n i u k
-    → 0 < n
-    → straight_byte i (get_or readings u 0) (get_or readings (u + 1) 0) ≡ true
-    → {l₁ l₂ b' : List ℕ}
-    → l₁ ≡ entered l k (0x100 + STATUS) (get_or readings u 0)
-    → l₂ ≡ entered l₁ (k + 1) (0x100 + DATA_CMD) (get_or readings (u + 1) 0)
-    → b' ≡ set b i (dat (get_or readings (u + 1) 0)) → Draining from places readings used l₀ entries b₀ l₂ b' (n - 1) (i + 1) (u + 2) (k + 2)
-drain_next {from} {places} {readings} {used} {l₀} {entries} {b₀} {l} {b} {n} {i} {u} {k} (g, up) more straight e₁ e₂ eb =
-    let next = not (eqb i 0) && first_data_byte (get_or readings (u + 1) 0) in
-    let both = both_of (rfne (get_or readings u 0)) (not next) straight in
-    let has_room : k + 2 ≤ length l₀ / 2 = omega (arith, g.room, more) in
-    let has_left : u + 2 ≤ length readings = omega (arith, g.left, more) in
-    let before : i + 1 < places = omega (arith, g.short, more) in (
-      turn g more
-          (λ stat. record {
-            reaches = λ bytes me none. rw (e₂, e₁, eb)
-                (byte_drained bytes me places stat i ((g.came stat).reaches bytes me none) has_room has_left
-                both.0 (not-true next both.1) before);
-          })
-          (omega (arith, g.room, more))
-          (omega (arith, g.left, more))
-          (rw (e₂, e₁) (simp length-set))
-          (rw eb (simp length-set)),
-      omega (arith, up),
-    )
+-- a byte's entries are in the log, its readings are used, and it is in its place
+pub byte_stored : {m : Message} {before mid : Recording} {b b' : List ℕ}
+    → Puts before 2
+    (entered (entered before.log.now before.entries (0x100 + STATUS) (get_or before.readings.now before.used 0))
+    (before.entries + 1) (0x100 + DATA_CMD) (get_or before.readings.now (before.used + 1) 0)) mid
+    → before.used + 2 ≤ length before.readings.now
+    → before.entries + 2 ≤ length before.log.now / 2
+    → length before.log.now < 2 ^ 64
+    → 1 < m.places - m.index
+    → straight_byte m.index (get_or before.readings.now before.used 0) (get_or before.readings.now (before.used + 1) 0) ≡ true
+    → b' ≡ set b m.index (dat (get_or before.readings.now (before.used + 1) 0))
+    → Drains m before b (record m { index = m.index + 1 }) (record mid { used = mid.used + 2 }) b'
+byte_stored {m} {before} put left room fits more straight eb =
+    let next = not (eqb m.index 0) && first_data_byte (get_or before.readings.now (before.used + 1) 0) in
+    let both = both_of (rfne (get_or before.readings.now before.used 0)) (not next) straight in
+    record {
+      keeps = record { readings = put.keeps.readings; loan = put.keeps.loan; size = put.keeps.size };
+      room = rw (put.entries, put.keeps.size) room;
+      up = rw put.entries (omega arith);
+      places = refl;
+      reaches = λ bytes me none. rw (put.entries, put.used, put.log, eb)
+          (byte_drained bytes me m.places m.stat m.index
+          (stays (machine bytes) before.readings.now (omega (arith, room)) fits) room left
+          both.0 (not-true next both.1) (omega (arith, more)));
+    }

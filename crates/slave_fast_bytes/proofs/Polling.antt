@@ -19,7 +19,10 @@ use Rattle.slave_steps.specs.Inner.Machine.{machine, slave}
 use Rattle.slave_steps.specs.declared.Slave.{Slave}
 use Rattle.slave_steps.specs.declared.Point.TheVariants.{Listening}
 use Rattle.regs_runs.specs.Inner.Reaches.{Reaches}
-use Rattle.regs_runs.proofs.Reach.{stays, then, did_read, did_write, did_mark}
+use Rattle.regs_runs.proofs.Reach.{stays, then, keeps_all, keeps_on, did_read, did_write, did_mark}
+use Rattle.regs.specs.declared.access.Recording.{Recording}
+use Rattle.regs_runs.specs.Inner.Puts.{Puts}
+use Rattle.slave_fast_bytes.specs.declared.listen.Message.{Message}
 use Rattle.slave_fast_bytes.specs.Inner.Bursts.{Drains, ForAny, straight_poll}
 
 module _ (bytes : List ℕ) {readings : List ℕ} (me : SlaveState) (none : me.pending_byte ≡ None) {s₀ : Slave}
@@ -68,23 +71,34 @@ module _ (bytes : List ℕ) {readings : List ℕ} (me : SlaveState) (none : me.p
       ≡ None = rw (none, lt-ltb 0 (level (get_or readings (u + 1) 0)) filled) in
       rw w at (did_read g₁ refl (omega (arith, room)) (omega (arith, left)) a q v)
 
--- a poll that leads straight on
-pub poll_done : {places : ℕ} {readings : List ℕ} {stat i entries used : ℕ} {l l₁ l₂ l₃ l₄ l₅ l₆ : List ℕ}
-    → i < places
-    → used + 3 ≤ length readings
-    → entries + 6 ≤ length l / 2
-    → length l < 2 ^ 64
-    → straight_poll stat (get_or readings used 0) (get_or readings (used + 2) 0) ≡ true
-    → l₁ ≡ entered l entries (0x100 + STATUS) (get_or readings used 0)
-    → l₂ ≡ entered l₁ (entries + 1) (0x200 + RX_TL) 11
-    → l₃ ≡ entered l₂ (entries + 2) (0x200 + INTR_MASK) 0x1a24 → l₄ ≡ entered l₃ (entries + 3) (0x300 + PENDING) 0
-    → l₅ ≡ entered l₄ (entries + 4) (0x100 + RAW_INTR_STAT) (get_or readings (used + 1) 0)
-    → l₆ ≡ entered l₅ (entries + 5) (0x100 + RXFLR) (get_or readings (used + 2) 0)
-    → ForAny (λ (b : List ℕ). Drains places readings stat i entries used l b (get_or readings (used + 1) 0) i (entries + 6) (used + 3) l₆ b)
-poll_done {places} {readings} {stat} {i} {entries} {used} {l} more left room fits straight e₁ e₂ e₃ e₄ e₅ e₆ = λ b. record {
+-- a poll's entries are in the log, and its readings are used
+pub poll_made : {m : Message} {before mid : Recording}
+    → Puts before 6
+    (entered (entered (entered (entered (entered (entered before.log.now before.entries
+    (0x100 + STATUS) (get_or before.readings.now before.used 0))
+    (before.entries + 1) (0x200 + RX_TL) 11)
+    (before.entries + 2) (0x200 + INTR_MASK) 0x1a24)
+    (before.entries + 3) (0x300 + PENDING) 0)
+    (before.entries + 4) (0x100 + RAW_INTR_STAT) (get_or before.readings.now (before.used + 1) 0))
+    (before.entries + 5) (0x100 + RXFLR) (get_or before.readings.now (before.used + 2) 0)) mid
+    → before.used + 3 ≤ length before.readings.now
+    → before.entries + 6 ≤ length before.log.now / 2
+    → length before.log.now < 2 ^ 64
+    → m.index < m.places
+    → straight_poll m.stat (get_or before.readings.now before.used 0) (get_or before.readings.now (before.used + 2) 0) ≡ true
+    → ForAny (λ (b : List ℕ). Drains m before b (record m { stat = get_or before.readings.now (before.used + 1) 0 })
+    (record mid { used = mid.used + 3 }) b)
+poll_made {m} {before} put left room fits more straight = λ b. record {
+  keeps = record { readings = put.keeps.readings; loan = put.keeps.loan; size = put.keeps.size };
+  room = rw (put.entries, put.keeps.size) room;
+  up = rw put.entries (omega arith);
+  places = refl;
   reaches = λ bytes me none.
-      let status = get_or readings used 0 in
-      let filled = get_or readings (used + 2) 0 in
+      let stat = m.stat in
+      let entries = before.entries in
+      let used = before.used in
+      let status = get_or before.readings.now used 0 in
+      let filled = get_or before.readings.now (used + 2) 0 in
       let s₁ = both_of (not (rfne status)) (not (rd_req stat) && (not (stop_det stat) && not (eqb (level filled) 0))) straight in
       let s₂ = both_of (not (rd_req stat)) (not (stop_det stat) && not (eqb (level filled) 0)) s₁.1 in
       let s₃ = both_of (not (stop_det stat)) (not (eqb (level filled) 0)) s₂.1 in
@@ -93,67 +107,37 @@ poll_done {places} {readings} {stat} {i} {entries} {used} {l} more left room fit
       let u₃ : used + 1 + 2 ≡ used + 3 = omega arith in
       let q₅ : entries + 4 + 1 ≡ entries + 5 = omega arith in
       let q₆ : entries + 4 + 2 ≡ entries + 6 = omega arith in
-      let g₀ = stays (machine bytes) readings {s = slave me places (Listening (Status stat i))} {e = entries}
-      {u = used} {l = l} {b = b} (omega (arith, room)) fits in
-      let g₄ = waits bytes me none places stat i g₀ (omega (arith, room)) (omega (arith, left))
+      let g₀ = stays (machine bytes) before.readings.now {s = slave me m.places (Listening (Status stat m.index))}
+      {e = entries} {u = used} {l = before.log.now} {b = b} (omega (arith, room)) fits in
+      let g₄ = waits bytes me none m.places stat m.index g₀ (omega (arith, room)) (omega (arith, left))
       (not-true (rfne status) s₁.0) (not-true (rd_req stat) s₂.0) (not-true (stop_det stat) s₃.0)
       more in
-      let g₆ = polls bytes me none places stat i g₄ (omega (arith, room)) (omega (arith, left)) (rw u₂ (omega (arith, some))) more in
-      rw (e₆, e₅, e₄, e₃, e₂, e₁) (rw (u₂, u₃, q₅, q₆) at g₆);
+      let g₆ = polls bytes me none m.places stat m.index g₄ (omega (arith, room)) (omega (arith, left))
+      (rw u₂ (omega (arith, some))) more in
+      rw (put.entries, put.used, put.log) (rw (u₂, u₃, q₅, q₆) at g₆);
 }
 
--- one part after the other
-drains_then : {places : ℕ} {readings : List ℕ} {stat i e u : ℕ} {l b : List ℕ} {stat₁ i₁ e₁ u₁ : ℕ} {l₁ b₁ : List ℕ}
-    {stat₂ i₂ e₂ u₂ : ℕ} {l₂ b₂ : List ℕ}
-    → Drains places readings stat i e u l b stat₁ i₁ e₁ u₁ l₁ b₁
-    → Drains places readings stat₁ i₁ e₁ u₁ l₁ b₁ stat₂ i₂ e₂ u₂ l₂ b₂
-    → Drains places readings stat i e u l b stat₂ i₂ e₂ u₂ l₂ b₂
-drains_then f g = record { reaches = λ bytes me none. then (f.reaches bytes me none) (g.reaches bytes me none) }
+-- nothing was done, and one part after the other
+pub no_drain : {m : Message} {r : Recording} {b : List ℕ}
+    → r.entries ≤ length r.log.now / 2
+    → length r.log.now < 2 ^ 64
+    → Drains m r b m r b
+no_drain {r = r} room fits = record {
+  keeps = keeps_all;
+  room = room;
+  up = omega arith;
+  places = refl;
+  reaches = λ bytes me none. stays (machine bytes) r.readings.now room fits;
+}
 
--- the loop's head
-pub record Polling (from_stat from : ℕ) (readings : List ℕ) (used : ℕ) (l₀ : List ℕ) (entries : ℕ) (b₀ l b : List ℕ)
-    (stat i u k places : ℕ) : Type 0 where
-  pub came : Drains places readings from_stat from entries used l₀ b₀ stat i k u l b
-  pub room : k ≤ length l₀ / 2
-  pub long : length l ≡ length l₀
-  pub wide : length b ≡ length b₀
-  pub fits : (length l₀ < 2 ^ 64) × (length readings < 2 ^ 64)
-
-module _ {from_stat from : ℕ} {readings : List ℕ} {used : ℕ} {l₀ : List ℕ} {entries : ℕ} {b₀ : List ℕ} {places : ℕ} where
-  pub no_poll : entries ≤ length l₀ / 2
-      → length l₀ < 2 ^ 64
-      → length readings < 2 ^ 64
-      → Polling from_stat from readings used l₀ entries b₀ l₀ b₀ from_stat from used entries places
-  no_poll room fits fits_readings =
-      record {
-        came = record { reaches = λ bytes me none. stays (machine bytes) readings room fits };
-        room = room;
-        long = refl;
-        wide = refl;
-        fits = (fits, fits_readings);
-      }
-
-  module _ {l b : List ℕ} {stat i u k : ℕ}
-      (g : Polling from_stat from readings used l₀ entries b₀ l b stat i u k places) {l₁ b₁ : List ℕ} {i₁ u₁ k₁ : ℕ}
-    where
-      -- bytes were drained
-      pub drained : ForAny (λ (stat : ℕ). Drains places readings stat i k u l b stat i₁ k₁ u₁ l₁ b₁)
-          × (i₁ < places)
-          × (u₁ ≤ length readings)
-          × (k₁ ≤ length l / 2)
-          × (k ≤ k₁)
-          → Drains places readings from_stat from entries used l₀ b₀ stat i₁ k₁ u₁ l₁ b₁
-      drained d = drains_then g.came (d.0 stat)
-
-      -- and a poll was made
-      pub polled : ForAny (λ (stat : ℕ). Drains places readings stat i k u l b stat i₁ k₁ u₁ l₁ b₁) × (i₁ < places)
-          × (u₁ ≤ length readings) × (k₁ ≤ length l / 2) × (k ≤ k₁)
-          → length l₁ ≡ length l
-          → length b₁ ≡ length b
-          → {l₂ : List ℕ} {stat₂ u₂ k₂ : ℕ}
-          → Drains places readings stat i₁ k₁ u₁ l₁ b₁ stat₂ i₁ k₂ u₂ l₂ b₁
-          → length l₂ ≡ length l₁
-          → k₂ ≤ length l₀ / 2
-          → Polling from_stat from readings used l₀ entries b₀ l₂ b₁ stat₂ i₁ u₂ k₂ places
-      polled d long wide p long₂ room =
-          record { came = drains_then (drained d) p; room = room; long = long₂ ∙ long ∙ g.long; wide = wide ∙ g.wide; fits = g.fits }
+pub drains_on : {m m₁ m₂ : Message} {r r₁ r₂ : Recording} {b b₁ b₂ : List ℕ}
+    → Drains m r b m₁ r₁ b₁
+    → Drains m₁ r₁ b₁ m₂ r₂ b₂
+    → Drains m r b m₂ r₂ b₂
+drains_on f g = record {
+  keeps = keeps_on f.keeps g.keeps;
+  room = g.room;
+  up = omega (arith, f.up, g.up);
+  places = g.places ∙ f.places;
+  reaches = λ bytes me none. then (f.reaches bytes me none) (rw (f.keeps.readings, f.places) at (g.reaches bytes me none));
+}

@@ -3,9 +3,9 @@ use Prim.Native.Nat.{ℕ, ◌+◌, ◌*◌, ◌/◌, ◌-◌, ◌<◌, ◌≤◌
 use native.Mathlib.Omega.{arith}
 use mathlib.Core.Bool.{Bool, true, false}
 use mathlib.Core.List.{List}
-use mathlib.Core.Path.{◌≡◌, refl, ◌∙◌}
+use mathlib.Core.Path.{◌≡◌, refl, ap, ◌∙◌}
 use lib.Dec.{ltb}
-use lib.ListN.{length, get_or, length-set}
+use lib.ListN.{length, get_or}
 use borrow.Author.Tests.{lt-ltb, le-ltb, ltb-false}
 use Rattle.regs.specs.Program.{PENDING}
 use Rattle.std.specs.Prelude.{if◌then◌else◌}
@@ -21,7 +21,10 @@ use Rattle.slave_steps.specs.Inner.Machine.{machine, slave}
 use Rattle.slave_steps.specs.declared.Slave.{Slave}
 use Rattle.slave_steps.specs.declared.Point.TheVariants.{Responding}
 use Rattle.regs_runs.specs.Inner.Reaches.{Reaches}
-use Rattle.regs_runs.proofs.Reach.{stays, then, did_read, did_write, did_mark}
+use Rattle.regs_runs.proofs.Reach.{stays, then, keeps_all, keeps_on, did_read, did_write, did_mark}
+use Rattle.regs.specs.declared.access.Recording.{Recording}
+use Rattle.regs.specs.Inner.Recording.{Keeps}
+use Rattle.regs_runs.specs.Inner.Puts.{Puts}
 use Rattle.slave_fast_bytes.specs.Inner.Bursts.{ForAny, Responds, StraightChunk}
 
 -- at byte i of a chunk
@@ -82,127 +85,112 @@ chunk_bounds i count more = rw (lt-ltb i count more) (go (ltb (count - i) 16) re
     go true e = (more, omega arith)
     go false e = (omega arith, omega (arith, ltb-false (count - i) 16 e, more))
 
--- the head of the loop over a chunk's bytes
-pub record Sending (from n : ℕ) (bytes readings : List ℕ) (u₀ : ℕ) (l₀ : List ℕ) (e₀ : ℕ) (l : List ℕ) (i left u e : ℕ) : Type 0 where
-  pub came : ForAny (λ (count : ℕ). Responds count bytes readings (ClrRdReq from (from + n)) e₀ u₀ l₀ (sending i (from + n)) e u l)
-  pub passed : i + left ≡ from + n
-  pub counted : e + left * 2 ≡ e₀ + n * 2
-  pub taken : u + left ≡ u₀ + n
-  pub held : (from + n ≤ length bytes) × (from + n < 2 ^ 16)
-  pub has : u₀ + n ≤ length readings
-  pub room : e₀ + n * 2 ≤ length l₀ / 2
-  pub long : length l ≡ length l₀
-  pub fits : (length l₀ < 2 ^ 64) × (length readings < 2 ^ 64)
+-- the head of the loop over a chunk's bytes, at byte i
+pub record Sending (from end : ℕ) (bytes : List ℕ) (before : Recording) (i : ℕ) (after : Recording) : Type 0 where
+  pub came : ForAny (λ (count : ℕ). Responds count bytes (ClrRdReq from end) before (sending i end) after)
+  pub counted : after.entries + from * 2 ≡ before.entries + i * 2
+  pub taken : after.used + from ≡ before.used + i
+  pub keeps : Keeps before after
 
-module _ {from n : ℕ} {bytes readings : List ℕ} {u₀ : ℕ} {l₀ : List ℕ} {e₀ : ℕ} where
-  pub none_sent : 0 < n
-      → from + n ≤ length bytes
-      → from + n < 2 ^ 16
-      → u₀ + n ≤ length readings
-      → e₀ + n * 2 ≤ length l₀ / 2
-      → length l₀ < 2 ^ 64
-      → length readings < 2 ^ 64
-      → Sending from n bytes readings u₀ l₀ e₀ l₀ from n u₀ e₀
-  none_sent some held small has room fits fits_readings =
+module _ {from end : ℕ} {bytes : List ℕ} {before : Recording} where
+  pub none_sent : from < end
+      → before.entries ≤ length before.log.now / 2
+      → length before.log.now < 2 ^ 64
+      → Sending from end bytes before from before
+  none_sent some room fits =
       record {
         came = λ count. record {
-          reaches = λ me job b own same. rw (lt-ltb from (from + n) (omega (arith, some)))
-              (stays (machine bytes) readings (omega (arith, room)) fits);
+          keeps = keeps_all;
+          room = room;
+          reaches = λ me job b own same. rw (lt-ltb from end some) (stays (machine bytes) before.readings.now room fits);
         };
-        passed = refl;
         counted = refl;
         taken = refl;
-        held = (held, small);
-        has = has;
-        room = room;
-        long = refl;
-        fits = (fits, fits_readings);
+        keeps = keeps_all;
       }
 
-  pub one_sent : {l : List ℕ} {i left u e : ℕ}
-      → Sending from n bytes readings u₀ l₀ e₀ l i left u e
-      → 0 < left
-      → {l₁ l₂ : List ℕ}
-      → l₁ ≡ entered l e (0x100 + CLR_RD_REQ) (get_or readings u 0)
-      → l₂ ≡ entered l₁ (e + 1) (0x200 + DATA_CMD) (get_or bytes i 0)
-      → Sending from n bytes readings u₀ l₀ e₀ l₂ (i + 1) (left - 1) (u + 1) (e + 2)
-  one_sent {l} {i} {left} {u} {e} g more e₁ e₂ =
-      let within : i < from + n = omega (arith, g.passed, more) in
-      let has_room : e + 2 ≤ length l₀ / 2 = omega (arith, g.counted, g.room, more) in
-      let has_left : u < length readings = omega (arith, g.taken, g.has, more) in
+  pub one_sent : {i : ℕ} {r mid : Recording}
+      → Sending from end bytes before i r
+      → i < end
+      → r.entries + 2 ≤ length r.log.now / 2
+      → r.used < length r.readings.now
+      → Puts r 2 (entered (entered r.log.now r.entries (0x100 + CLR_RD_REQ) (get_or r.readings.now r.used 0))
+      (r.entries + 1) (0x200 + DATA_CMD) (get_or bytes i 0)) mid
+      → Sending from end bytes before (i + 1) (record mid { used = mid.used + 1 })
+  one_sent {i} {r} {mid} g within room left put =
+      let on : Keeps r mid = put.keeps in
+      let e : length r.log.now / 2 ≡ length before.log.now / 2 = ap (λ (x : ℕ). x / 2) g.keeps.size in
+      let all : Keeps before (record mid { used = mid.used + 1 }) =
+      record {
+        readings = on.readings ∙ g.keeps.readings;
+        loan = on.loan ∙ g.keeps.loan;
+        size = on.size ∙ g.keeps.size;
+      } in
       record {
         came = λ count. record {
-          reaches = λ me job b own same. rw (e₂, e₁)
-              (byte_sent bytes me job count i (from + n) ((g.came count).reaches me job b own same) same within
-              has_room has_left);
+          keeps = all;
+          room = rw (put.entries, put.keeps.size) room;
+          reaches = λ me job b own same. rw (put.entries, put.used, put.log, ← g.keeps.readings)
+              (byte_sent bytes me job count i end
+              (rw (← g.keeps.readings) at ((g.came count).reaches me job b own same)) same within
+              (omega (arith, room, e)) left);
         };
-        passed = omega (arith, g.passed, more);
-        counted = omega (arith, g.counted, more);
-        taken = omega (arith, g.taken, more);
-        held = g.held;
-        has = g.has;
-        room = g.room;
-        long = rw (e₂, e₁) (simp length-set g.long);
-        fits = g.fits;
+        counted = omega (arith, g.counted, put.entries);
+        taken = omega (arith, g.taken, put.used);
+        keeps = all;
       }
 
-  pub all_sent : {l : List ℕ} {i left u e : ℕ} → Sending from n bytes readings u₀ l₀ e₀ l i left u e → left ≡ 0
-      → ForAny (λ (count : ℕ). Responds count bytes readings (ClrRdReq from (from + n)) e₀ u₀ l₀
-      (IntrMask (from + n)) (e₀ + n * 2) (u₀ + n) l)
-  all_sent {l} {i} {left} {u} {e} g z =
-      let ee : e₀ + n * 2 ≡ e = omega (arith, g.counted, z) in
-      let eu : u₀ + n ≡ u = omega (arith, g.taken, z) in
-      let past : ltb i (from + n) ≡ false = le-ltb i (from + n) (omega (arith, g.passed, z)) in
-      λ count. record { reaches = λ me job b own same. rw (ee, eu) (rw past at ((g.came count).reaches me job b own same)) }
+  pub all_sent : {i : ℕ} {r : Recording}
+      → Sending from end bytes before i r
+      → end ≤ i
+      → ForAny (λ (count : ℕ). Responds count bytes (ClrRdReq from end) before (IntrMask end) r)
+  all_sent {i} g z = rw (le-ltb i end z) at g.came
 
--- the head of the loop over chunks
-pub record Chunks (from count : ℕ) (bytes readings : List ℕ) (used : ℕ) (l₀ : List ℕ) (entries : ℕ) (l : List ℕ) (i u k : ℕ) : Type 0 where
-  pub came : Responds count bytes readings (RawIntrStat from) entries used l₀ (RawIntrStat i) k u l
-  pub room : k ≤ length l₀ / 2
-  pub long : length l ≡ length l₀
-  pub fits : (length l₀ < 2 ^ 64) × (length readings < 2 ^ 64) × (count < 2 ^ 16)
-
-module _ {from count : ℕ} {bytes readings : List ℕ} {used : ℕ} {l₀ : List ℕ} {entries : ℕ} where
-  pub no_chunk : entries ≤ length l₀ / 2
-      → length l₀ < 2 ^ 64
-      → length readings < 2 ^ 64
-      → count < 2 ^ 16
-      → Chunks from count bytes readings used l₀ entries l₀ from used entries
-  no_chunk room fits fits_readings FitsCount =
+module _ {count : ℕ} {bytes : List ℕ} where
+  pub no_chunk : {p : RespondPoint} {r : Recording}
+      → r.entries ≤ length r.log.now / 2
+      → length r.log.now < 2 ^ 64
+      → Responds count bytes p r p r
+  no_chunk {r = r} room fits =
       record {
-        came = record { reaches = λ me job b own same. stays (machine bytes) readings room fits };
+        keeps = keeps_all;
         room = room;
-        long = refl;
-        fits = (fits, fits_readings, FitsCount);
+        reaches = λ me job b own same. stays (machine bytes) r.readings.now room fits;
       }
 
-  pub one_chunk : {l : List ℕ} {i u k : ℕ}
-      → Chunks from count bytes readings used l₀ entries l i u k
-      → {room n : ℕ}
-      → room ≡ length l₀ / 2
-      → StraightChunk readings u k room i count n
-      → {next : ℕ} {l₁ l₂ l₃ l₄ : List ℕ} → next ≡ k + 1 + n * 2 → l₁ ≡ entered l k (0x100 + RAW_INTR_STAT) (get_or readings u 0)
-      → ForAny (λ (count : ℕ). Responds count bytes readings (ClrRdReq i (i + n)) (k + 1) (u + 1) l₁
-      (IntrMask (i + n)) (k + 1 + n * 2) (u + 1 + n) l₂)
-      → l₃ ≡ entered l₂ next (0x200 + INTR_MASK) 0xd0 → l₄ ≡ entered l₃ (next + 1) (0x300 + PENDING) 0 → length l₄ ≡ length l
-      → Chunks from count bytes readings used l₀ entries l₄ (i + n) (u + 1 + n) (next + 2)
-  one_chunk {l} {i} {u} {k} g {room} {n} er s {next} {l₁} {l₂} {l₃} {l₄} en e₁ f e₃ e₄ long =
-      let fit : k + n * 2 + 3 ≤ length l₀ / 2 = omega (arith, s.fits, er) in
-      record {
-        came = record {
-          reaches = λ me job b own same.
-              let g₁ = poll_sends bytes me job count i (i + n) (g.came.reaches me job b own same) own s.quiet
-              s.before s.ends (omega (arith, fit)) (omega (arith, s.left)) in
-              let g₂ = (then) (rw (← e₁) at g₁) ((f count).reaches me job b own same) in
-              let at_next : k + 1 + n * 2 ≡ next = omega (arith, en) in
-              let g₃ = waits bytes me job count (i + n) (i + n) (rw at_next at g₂) (omega (arith, en, fit)) in
-              rw (← e₃, ← e₄) at g₃;
-        };
-        room = omega (arith, en, fit);
-        long = long ∙ g.long;
-        fits = g.fits;
-      }
+  pub responds_on : {p p₁ p₂ : RespondPoint} {r r₁ r₂ : Recording}
+      → Responds count bytes p r p₁ r₁
+      → Responds count bytes p₁ r₁ p₂ r₂
+      → Responds count bytes p r p₂ r₂
+  responds_on f g = record {
+    keeps = keeps_on f.keeps g.keeps;
+    room = g.room;
+    reaches = λ me job b own same. (then) (f.reaches me job b own same) (rw f.keeps.readings at (g.reaches me job b own same));
+  }
 
--- the poll has its reading
-pub has_reading : {readings : List ℕ} {u e room i count n : ℕ} → StraightChunk readings u e room i count n → u < length readings
-has_reading s = omega (arith, s.left)
+  -- the poll before a chunk
+  pub chunk_polled : {i end : ℕ} {r mid : Recording}
+      → StraightChunk r i count end
+      → length r.log.now < 2 ^ 64
+      → Puts r 1 (entered r.log.now r.entries (0x100 + RAW_INTR_STAT) (get_or r.readings.now r.used 0)) mid
+      → Responds count bytes (RawIntrStat i) r (ClrRdReq i end) (record mid { used = mid.used + 1 })
+  chunk_polled {i} {end} {r} s fits put = record {
+    keeps = record { readings = put.keeps.readings; loan = put.keeps.loan; size = put.keeps.size };
+    room = rw (put.entries, put.keeps.size) (omega (arith, s.fits));
+    reaches = λ me job b own same. rw (put.entries, put.used, put.log)
+        (poll_sends bytes me job count i end (stays (machine bytes) r.readings.now (omega (arith, s.fits)) fits)
+        own s.quiet s.before s.ends (omega (arith, s.fits)) (omega (arith, s.left)));
+  }
+
+  -- the wait behind it
+  pub chunk_waited : {i : ℕ} {r mid : Recording}
+      → r.entries + 2 ≤ length r.log.now / 2
+      → length r.log.now < 2 ^ 64
+      → Puts r 2 (entered (entered r.log.now r.entries (0x200 + INTR_MASK) 0xd0) (r.entries + 1) (0x300 + PENDING) 0) mid
+      → Responds count bytes (IntrMask i) r (RawIntrStat i) mid
+  chunk_waited {i} {r} room fits put = record {
+    keeps = put.keeps;
+    room = rw (put.entries, put.keeps.size) room;
+    reaches = λ me job b own same. rw (put.entries, put.used, put.log)
+        (waits bytes me job count i i (stays (machine bytes) r.readings.now (omega (arith, room)) fits) room);
+  }

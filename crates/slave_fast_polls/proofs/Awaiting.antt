@@ -1,11 +1,11 @@
 -- Polls of `listen` that find nothing.
-use Prim.Native.Nat.{ℕ, ◌+◌, ◌/◌, ◌-◌, ◌<◌, ◌≤◌, ◌^◌}
+use Prim.Native.Nat.{ℕ, ◌+◌, ◌/◌, ◌<◌, ◌≤◌, ◌^◌}
 use native.Mathlib.Omega.{arith}
 use mathlib.Core.Bool.{true, not, ◌&&◌, and-false}
 use mathlib.Core.List.{List}
 use mathlib.Core.Path.{◌≡◌, refl}
 use lib.Dec.{eqb}
-use lib.ListN.{length, get_or, length-set}
+use lib.ListN.{length, get_or}
 use borrow.Author.Tests.{le-ltb, ne_eqb, eqb-true, not-true}
 use Rattle.std.specs.Prelude.{None}
 use Rattle.regs.proofs.Tests.{both_of}
@@ -19,8 +19,9 @@ use Rattle.slave_steps.specs.Inner.Machine.{machine, slave}
 use Rattle.slave_steps.specs.declared.Slave.{Slave}
 use Rattle.slave_steps.specs.declared.Point.TheVariants.{Listening}
 use Rattle.regs_runs.specs.Inner.Reaches.{Reaches}
-use Rattle.regs_runs.proofs.Reach.{stays, did_read, did_write, did_mark}
-use Rattle.regs_runs.proofs.Turns.{Polls, poll}
+use Rattle.regs.specs.declared.access.Recording.{Recording}
+use Rattle.regs_runs.specs.Inner.Puts.{Puts}
+use Rattle.regs_runs.proofs.Reach.{stays, then, keeps_all, keeps_on, did_read, did_write, did_mark}
 use Rattle.slave_fast_polls.specs.Inner.Idles.{Awaits, idle_listen}
 
 module _ (bytes : List ℕ) {readings : List ℕ} (me : SlaveState) (none : me.pending_byte ≡ None) {s₀ : Slave}
@@ -62,38 +63,36 @@ module _ (bytes : List ℕ) {readings : List ℕ} (me : SlaveState) (none : me.p
       let q₄ : e + 4 ≡ e + 3 + 1 = omega arith in
       did_mark g₃ {x = PENDING} refl (omega (arith, room)) refl q₄
 
--- how far the polls came
-abbrev pub Came : List ℕ → ℕ → List ℕ → ℕ → ℕ → ℕ → List ℕ → Type 0
-Came readings used l₀ entries u k l = Awaits readings entries used l₀ k u l
+-- no poll, one poll after the other, and a poll's entries with its readings
+pub no_wait : {r : Recording} → r.entries ≤ length r.log.now / 2 → length r.log.now < 2 ^ 64 → Awaits r r
+no_wait {r} room fits = record {
+  keeps = keeps_all;
+  room = room;
+  reaches = λ bytes me places i b none more. stays (machine bytes) r.readings.now room fits;
+}
 
--- the loop's head
-abbrev pub Awaiting : List ℕ → ℕ → List ℕ → ℕ → List ℕ → ℕ → ℕ → ℕ → Type 0
-Awaiting readings used l₀ entries l n u k = Polls (Came readings used l₀ entries) 4 2 readings l₀ l n u k
+pub wait_after : {r r₁ r₂ : Recording} → Awaits r r₁ → Awaits r₁ r₂ → Awaits r r₂
+wait_after x y = record {
+  keeps = keeps_on x.keeps y.keeps;
+  room = y.room;
+  reaches = λ bytes me places i b none more. then (x.reaches bytes me places i b none more)
+      (rw x.keeps.readings at (y.reaches bytes me places i b none more));
+}
 
-pub await_none : {readings : List ℕ} {used : ℕ} {l : List ℕ} {entries : ℕ}
-    → entries ≤ length l / 2
-    → length l < 2 ^ 64
-    → Came readings used l entries used entries l
-await_none {readings} has fits = record { reaches = λ bytes me places i b none more. stays (machine bytes) readings has fits }
-
-pub await_next : {readings : List ℕ} {used : ℕ} {l₀ : List ℕ} {entries : ℕ} {l : List ℕ} {n u k : ℕ}
-    → Awaiting readings used l₀ entries l n u k
-    → 0 < n
-    → idle_listen (get_or readings u 0) (get_or readings (u + 1) 0) ≡ true
-    → {l₁ l₂ l₃ l₄ : List ℕ}
-    → l₁ ≡ entered l k (0x100 + RAW_INTR_STAT) (get_or readings u 0)
-    → l₂ ≡ entered l₁ (k + 1) (0x100 + RXFLR) (get_or readings (u + 1) 0)
-    → l₃ ≡ entered l₂ (k + 2) (0x200 + INTR_MASK) 0x1a24 → l₄ ≡ entered l₃ (k + 3) (0x300 + PENDING) 0
-    → Awaiting readings used l₀ entries l₄ (n - 1) (u + 2) (k + 4)
-await_next {readings} {used} {l₀} {entries} {l} {n} {u} {k} g more idle e₁ e₂ e₃ e₄ =
-    let has_room : k + 4 ≤ length l₀ / 2 = omega (arith, g.room, more) in
-    let has_left : u + 2 ≤ length readings = omega (arith, g.left, more) in
-    poll g
-    (record {
-      reaches = λ bytes me places i b none less. rw (e₄, e₃, e₂, e₁)
-          (poll_awaits bytes me none places i (g.came.reaches bytes me places i b none less) less idle has_room
-          has_left);
-    })
-    (omega (arith, g.room, more))
-    (omega (arith, g.left, more))
-    (rw (e₄, e₃, e₂, e₁) (simp length-set))
+pub waited : {before mid : Recording}
+    → Puts before 4
+    (entered (entered (entered (entered before.log.now before.entries (0x100 + RAW_INTR_STAT) (get_or before.readings.now before.used 0))
+    (before.entries + 1) (0x100 + RXFLR) (get_or before.readings.now (before.used + 1) 0))
+    (before.entries + 2) (0x200 + INTR_MASK) 0x1a24)
+    (before.entries + 3) (0x300 + PENDING) 0) mid
+    → before.used + 2 ≤ length before.readings.now
+    → before.entries + 4 ≤ length before.log.now / 2
+    → length before.log.now < 2 ^ 64
+    → idle_listen (get_or before.readings.now before.used 0) (get_or before.readings.now (before.used + 1) 0) ≡ true
+    → Awaits before (record mid { used = mid.used + 2 })
+waited {before} put left room fits idle = record {
+  keeps = record { readings = put.keeps.readings; loan = put.keeps.loan; size = put.keeps.size };
+  room = rw (put.entries, put.keeps.size) room;
+  reaches = λ bytes me places i b none more. rw (put.entries, put.used, put.log)
+      (poll_awaits bytes me none places i (stays (machine bytes) before.readings.now (omega (arith, room)) fits) more idle room left);
+}

@@ -1,10 +1,10 @@
 -- Polls that find nothing to do.
-use Prim.Native.Nat.{ℕ, ◌+◌, ◌/◌, ◌-◌, ◌<◌, ◌≤◌, ◌^◌}
+use Prim.Native.Nat.{ℕ, ◌+◌, ◌/◌, ◌<◌, ◌≤◌, ◌^◌}
 use native.Mathlib.Omega.{arith}
 use mathlib.Core.Bool.{true, not, ◌&&◌}
 use mathlib.Core.List.{List}
 use mathlib.Core.Path.{◌≡◌, refl}
-use lib.ListN.{length, get_or, length-set}
+use lib.ListN.{length, get_or}
 use borrow.Author.Tests.{le-ltb, not-true}
 use Rattle.regs.proofs.Tests.{both_of}
 use Rattle.regs.specs.Program.{PENDING}
@@ -19,8 +19,9 @@ use Rattle.slave_steps.specs.Inner.Machine.{machine, slave}
 use Rattle.slave_steps.specs.declared.Slave.{Slave}
 use Rattle.slave_steps.specs.declared.Point.TheVariants.{Responding}
 use Rattle.regs_runs.specs.Inner.Reaches.{Reaches}
-use Rattle.regs_runs.proofs.Reach.{stays, did_read}
-use Rattle.regs_runs.proofs.Turns.{Polls, poll}
+use Rattle.regs.specs.declared.access.Recording.{Recording}
+use Rattle.regs_runs.specs.Inner.Puts.{Puts}
+use Rattle.regs_runs.proofs.Reach.{stays, then, keeps_all, keeps_on, did_read}
 use Rattle.slave_fast_polls.specs.Inner.Idles.{Idles, idle_poll}
 use Rattle.slave_fast_bytes.proofs.Sending.{waits}
 
@@ -51,38 +52,35 @@ module _ (bytes : List ℕ) {readings : List ℕ} (me : SlaveState) (job : Job) 
       let q₃ : e + 1 + 2 ≡ e + 3 = omega arith in
       rw (q₂, q₃) at (waits bytes me job count i i g₁ (omega (arith, room)))
 
--- how far the polls came
-abbrev pub Came : List ℕ → ℕ → List ℕ → ℕ → ℕ → ℕ → List ℕ → Type 0
-Came readings used l₀ entries u k l = Idles readings entries used l₀ k u l
+-- no poll, one poll after the other, and a poll's entries with its readings
+pub no_idle : {r : Recording} → r.entries ≤ length r.log.now / 2 → length r.log.now < 2 ^ 64 → Idles r r
+no_idle {r} room fits = record {
+  keeps = keeps_all;
+  room = room;
+  reaches = λ bytes me job count i b sent. stays (machine bytes) r.readings.now room fits;
+}
 
--- the loop's head
-abbrev pub Idling : List ℕ → ℕ → List ℕ → ℕ → List ℕ → ℕ → ℕ → ℕ → Type 0
-Idling readings used l₀ entries l n u k = Polls (Came readings used l₀ entries) 3 1 readings l₀ l n u k
+pub idle_after : {r r₁ r₂ : Recording} → Idles r r₁ → Idles r₁ r₂ → Idles r r₂
+idle_after x y = record {
+  keeps = keeps_on x.keeps y.keeps;
+  room = y.room;
+  reaches = λ bytes me job count i b sent. then (x.reaches bytes me job count i b sent)
+      (rw x.keeps.readings at (y.reaches bytes me job count i b sent));
+}
 
-pub idle_none : {readings : List ℕ} {used : ℕ} {l : List ℕ} {entries : ℕ}
-    → entries ≤ length l / 2
-    → length l < 2 ^ 64
-    → Came readings used l entries used entries l
-idle_none {readings} has fits = record { reaches = λ bytes me job count i b sent. stays (machine bytes) readings has fits }
-
-pub idle_next : {readings : List ℕ} {used : ℕ} {l₀ : List ℕ} {entries : ℕ} {l : List ℕ} {n u k : ℕ}
-    → Idling readings used l₀ entries l n u k
-    → 0 < n
-    → idle_poll (get_or readings u 0) ≡ true
-    → {l₁ l₂ l₃ : List ℕ}
-    → l₁ ≡ entered l k (0x100 + RAW_INTR_STAT) (get_or readings u 0)
-    → l₂ ≡ entered l₁ (k + 1) (0x200 + INTR_MASK) 0xd0
-    → l₃ ≡ entered l₂ (k + 2) (0x300 + PENDING) 0
-    → Idling readings used l₀ entries l₃ (n - 1) (u + 1) (k + 3)
-idle_next {readings} {used} {l₀} {entries} {l} {n} {u} {k} g more idle e₁ e₂ e₃ =
-    let has_room : k + 3 ≤ length l₀ / 2 = omega (arith, g.room, more) in
-    let has_left : u < length readings = omega (arith, g.left, more) in
-    poll g
-    (record {
-      reaches = λ bytes me job count i b sent. rw (e₃, e₂, e₁)
-          (poll_idle bytes me job count i (g.came.reaches bytes me job count i b sent) sent idle has_room
-          has_left);
-    })
-    (omega (arith, g.room, more))
-    (omega (arith, g.left, more))
-    (rw (e₃, e₂, e₁) (simp length-set))
+pub idled : {before mid : Recording}
+    → Puts before 3
+    (entered (entered (entered before.log.now before.entries (0x100 + RAW_INTR_STAT) (get_or before.readings.now before.used 0))
+    (before.entries + 1) (0x200 + INTR_MASK) 0xd0)
+    (before.entries + 2) (0x300 + PENDING) 0) mid
+    → before.used + 1 ≤ length before.readings.now
+    → before.entries + 3 ≤ length before.log.now / 2
+    → length before.log.now < 2 ^ 64
+    → idle_poll (get_or before.readings.now before.used 0) ≡ true
+    → Idles before (record mid { used = mid.used + 1 })
+idled {before} put left room fits idle = record {
+  keeps = record { readings = put.keeps.readings; loan = put.keeps.loan; size = put.keeps.size };
+  room = rw (put.entries, put.keeps.size) room;
+  reaches = λ bytes me job count i b sent. rw (put.entries, put.used, put.log)
+      (poll_idle bytes me job count i (stays (machine bytes) before.readings.now (omega (arith, room)) fits) sent idle room (omega (arith, left)));
+}

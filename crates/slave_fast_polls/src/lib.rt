@@ -1,19 +1,13 @@
 // Polls that find nothing to do: INTR_MASK is set, and the next poll comes.
 #![tactic(auto)]
 
-ghost use Rattle.std.specs.Prelude.{◌≡◌, ◌/◌, ◌≤◌, length};
+ghost use Rattle.std.specs.Prelude.{true, ◌≡◌, ◌<◌, ◌≤◌};
+ghost use Rattle.regs.specs.Inner.Recording.{room_of};
 ghost use Rattle.slave_fast_polls.specs.Inner.Idles.{Idles, idle_poll, Awaits, idle_listen};
 
-use counts::least;
+use regs::access::Recording;
 use regs::fields::{has_rd_req, has_rx_done, has_stop_det, has_tx_abrt, has_tx_empty, level_of};
-use regs_runs::{put_mark, put_read, put_write};
-
-// How far the polls came: the readings used and the entries in the log.
-#[derive(Clone, Copy)]
-pub struct Polled {
-    pub used: usize,
-    pub entries: usize,
-}
+use regs_runs::has;
 
 fn is_idle(stat: u32) -> bool
     ensures { result ≡ idle_poll stat }
@@ -21,35 +15,31 @@ fn is_idle(stat: u32) -> bool
     !has_tx_abrt(stat) & (!has_rx_done(stat) & !(has_rd_req(stat) & has_tx_empty(stat)))
 }
 
-// Of a response whose bytes are all sent.
-pub fn respond(readings: &[u32], used: usize, log: &mut [u32], entries: usize) -> Polled
-    requires { entries ≤ length log.old / 2 }
-    ensures { Idles readings.now entries used log.old result.entries result.used
-        log.new }
+// One poll of a response whose bytes are all sent, if it finds nothing, and whether it did.
+fn idle(recording: &mut Recording) -> bool
+    requires { recording.old.entries ≤ room_of recording.old }
+    ensures idles { Idles recording.old recording.new }
+    ensures found_nothing { result ≡ true → recording.old.entries < recording.new.entries }
 {
-    if used > readings.len() {
-        return Polled { used, entries };
-    }
-    let mut n = least((log.len() / 2 - entries) / 3, readings.len() - used);
-    let mut u = used;
-    let mut k = entries;
-    while 0 < n {
-        let stat = readings[u];
+    if has(recording, 1, 3) {
+        let stat = recording.readings[recording.used];
         if is_idle(stat) {
-            put_read(log, k, regs::RAW_INTR_STAT, stat);
-            put_write(log, k + 1, regs::INTR_MASK, slave_respond::MASK);
-            put_mark(log, k + 2, regs::PENDING);
-            u += 1;
-            k += 3;
-            n -= 1;
-        } else {
-            break;
+            recording.put_read(regs::RAW_INTR_STAT, stat);
+            recording.put_write(regs::INTR_MASK, slave_respond::MASK);
+            recording.put_mark(regs::PENDING);
+            recording.used += 1;
+            return true;
         }
     }
-    Polled {
-        used: u,
-        entries: k,
-    }
+    false
+}
+
+// Of a response whose bytes are all sent.
+pub fn respond(recording: &mut Recording)
+    requires { recording.old.entries ≤ room_of recording.old }
+    ensures { Idles recording.old recording.new }
+{
+    while idle(recording) {}
 }
 
 fn is_idle_listen(stat: u32, filled: u32) -> bool
@@ -58,35 +48,31 @@ fn is_idle_listen(stat: u32, filled: u32) -> bool
     !has_rd_req(stat) & (!has_stop_det(stat) & (level_of(filled) == 0))
 }
 
-// Of `listen`, with no byte pending.
-pub fn listen(readings: &[u32], used: usize, log: &mut [u32], entries: usize) -> Polled
-    requires { entries ≤ length log.old / 2 }
-    ensures { Awaits readings.now entries used log.old result.entries result.used
-        log.new }
+// One poll of `listen` with no byte pending, if it finds nothing, and whether it did.
+fn wait(recording: &mut Recording) -> bool
+    requires { recording.old.entries ≤ room_of recording.old }
+    ensures awaits { Awaits recording.old recording.new }
+    ensures found_nothing { result ≡ true → recording.old.entries < recording.new.entries }
 {
-    if used > readings.len() {
-        return Polled { used, entries };
-    }
-    let mut n = least((log.len() / 2 - entries) / 4, (readings.len() - used) / 2);
-    let mut u = used;
-    let mut k = entries;
-    while 0 < n {
-        let stat = readings[u];
-        let filled = readings[u + 1];
+    if has(recording, 2, 4) {
+        let stat = recording.readings[recording.used];
+        let filled = recording.readings[recording.used + 1];
         if is_idle_listen(stat, filled) {
-            put_read(log, k, regs::RAW_INTR_STAT, stat);
-            put_read(log, k + 1, regs::RXFLR, filled);
-            put_write(log, k + 2, regs::INTR_MASK, slave_listen::MASK);
-            put_mark(log, k + 3, regs::PENDING);
-            u += 2;
-            k += 4;
-            n -= 1;
-        } else {
-            break;
+            recording.put_read(regs::RAW_INTR_STAT, stat);
+            recording.put_read(regs::RXFLR, filled);
+            recording.put_write(regs::INTR_MASK, slave_listen::MASK);
+            recording.put_mark(regs::PENDING);
+            recording.used += 2;
+            return true;
         }
     }
-    Polled {
-        used: u,
-        entries: k,
-    }
+    false
+}
+
+// Of `listen`, with no byte pending.
+pub fn listen(recording: &mut Recording)
+    requires { recording.old.entries ≤ room_of recording.old }
+    ensures { Awaits recording.old recording.new }
+{
+    while wait(recording) {}
 }

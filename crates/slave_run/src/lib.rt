@@ -9,7 +9,7 @@ ghost use Rattle.slave_steps.specs.Inner.Machine.{machine};
 ghost use Rattle.slave_run.specs.Requests.{left_by};
 ghost use Rattle.slave_run.specs.Inner.Starts.{started};
 
-use regs::access::Ran;
+use regs::access::{Ran, Recording};
 use slave::SlaveState;
 use slave_steps::Slave;
 
@@ -39,36 +39,22 @@ pub fn run(from: Slave, bytes: &[u8], readings: &[u32], log: &mut [u32], buffer:
         ≡ ran (machine bytes.now) readings.now (length log.old / 2) from 0 0
         log.old buffer.old }
 {
+    let mut recording = Recording::new(readings, log);
     let mut p = from;
-    let mut entries: usize = 0;
-    let mut used: usize = 0;
     loop {
-        let a = slave_fast::burst_from(p, bytes, readings, used, log, entries, buffer);
-        let point = a.point;
+        let point = slave_fast::burst_from(p, bytes, &mut recording, buffer);
         p = slave_steps::at_point(p, point);
-        used = a.used;
-        entries = a.entries;
-        let n = slave_steps::next_access(p, bytes);
-        match regs::access::perform(n, readings, used, log, entries) {
-            Err(r) => {
-                let state = p.state;
-                return Left {
-                    state,
-                    ran: Ran {
-                        reply: r,
-                        entries,
-                        used,
-                    },
-                };
+        match recording.perform(slave_steps::next_access(p, bytes)) {
+            Ok(v) => {
+                let moved = slave_steps::advance(p, v);
+                regs::access::keep(buffer, moved.store);
+                p = moved.slave;
             }
-            Ok((v, u)) => {
-                let m = slave_steps::advance(p, v);
-                let e = m.store;
-                regs::access::keep(buffer, e);
-                let q = m.slave;
-                p = q;
-                used = u;
-                entries += 1;
+            Err(reply) => {
+                return Left {
+                    state: p.state,
+                    ran: recording.ran(reply),
+                };
             }
         }
     }

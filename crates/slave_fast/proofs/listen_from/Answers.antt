@@ -1,8 +1,7 @@
--- `listen_from`: the test `is_none` decides: with no byte pending `listen_ahead` (proofs/Coming.antt) makes
--- the `Drains` of `burst` a run of the slave from its point; else `not_ahead`, the slave stays where it is.
-use Rattle.slave_fast.proofs.Coming.{listen_ahead}
+-- `listen_from`: `await_ahead` of proofs/Coming.antt makes the polls that found nothing a run of the slave.
+use Rattle.slave_fast.proofs.Coming.{await_ahead}
 use Rattle.slave_fast.proofs.listen_from.Goals as goal
 
-pub returns-then-is_none : goal.returns-then-is_none
-returns-then-is_none c = listen_ahead c.requires.0 c.came.ensures (c.is_none.ensures c.if-is_none.true)
-    c.burst-c.ensures
+pub returns-in-RawIntrStat : goal.returns-in-RawIntrStat
+returns-in-RawIntrStat c = λ bytes. await_ahead (rw c.in-RawIntrStat.is at c.requires.at) c.requires.none c.if-index-s.true
+    c.listen.ensures bytes c.args.buffer.now

@@ -1,6 +1,8 @@
 -- A burst: the slave's run comes from one point to another within `listen` or within a response.
-use Rattle.std.specs.Prelude.{ℕ, ◌+◌, ◌*◌, ◌<◌, ◌≤◌, Bool, false, not, ◌&&◌, List, ◌≡◌, eqb, length, get_or, None}
+use Rattle.std.specs.Prelude.{ℕ, ◌+◌, ◌-◌, ◌*◌, ◌<◌, ◌≤◌, Bool, false, not, ◌&&◌, List, ◌≡◌, eqb, length, get_or, None}
 use Rattle.regs.specs.Fields.{rfne, first_data_byte, rd_req, stop_det, tx_abrt, level}
+use Rattle.regs.specs.Inner.Recording.{Keeps, room_of}
+use Rattle.regs.specs.declared.access.Recording.{Recording}
 use Rattle.slave.specs.declared.SlaveState.{SlaveState}
 use Rattle.slave_listen.specs.declared.ListenPoint.TheVariants.{Status}
 use Rattle.slave_respond.specs.Inner.Machine.{response, count_of, byte_at, chunk_end}
@@ -8,6 +10,7 @@ use Rattle.slave_respond.specs.declared.Job.{Job}
 use Rattle.slave_respond.specs.declared.RespondPoint.{RespondPoint}
 use Rattle.slave_steps.specs.Inner.Machine.{machine, slave}
 use Rattle.slave_steps.specs.declared.Point.TheVariants.{Listening, Responding}
+use Rattle.slave_fast_bytes.specs.declared.listen.Message.{Message}
 use Rattle.regs_runs.specs.Inner.Reaches.{Reaches}
 
 -- a burst is the same whatever it does not look at
@@ -16,10 +19,15 @@ ForAny {A} f = (a : A) → f a
 
 -- ---- `listen`, with a buffer of so many places and no byte pending
 
-pub record Drains (places : ℕ) (readings : List ℕ) (stat i e u : ℕ) (l b : List ℕ) (stat' i' e' u' : ℕ) (l' b' : List ℕ) : Type 0 where
+pub record Drains (from : Message) (before : Recording) (b : List ℕ) (to : Message) (after : Recording) (b' : List ℕ) : Type 0 where
+  pub keeps : Keeps before after
+  pub room : after.entries ≤ room_of after
+  pub up : before.entries ≤ after.entries
+  pub places : to.places ≡ from.places
   pub reaches : (bytes : List ℕ) (me : SlaveState) → me.pending_byte ≡ None
-      → Reaches (machine bytes) readings (slave me places (Listening (Status stat i))) e u l b
-      (slave me places (Listening (Status stat' i'))) e' u' l' b'
+      → Reaches (machine bytes) before.readings.now (slave me from.places (Listening (Status from.stat from.index)))
+      before.entries before.used before.log.now b
+      (slave me from.places (Listening (Status to.stat to.index))) after.entries after.used after.log.now b'
 
 -- a byte that is there and belongs to this message
 abbrev pub straight_byte : ℕ → ℕ → ℕ → Bool
@@ -31,16 +39,19 @@ straight_poll stat status filled = not (rfne status) && (not (rd_req stat) && (n
 
 -- ---- a response, with so many bytes
 
-pub record Responds (count : ℕ) (bytes readings : List ℕ) (p : RespondPoint) (e u : ℕ) (l : List ℕ)
-    (p' : RespondPoint) (e' u' : ℕ) (l' : List ℕ) : Type 0 where
+pub record Responds (count : ℕ) (bytes : List ℕ) (p : RespondPoint) (before : Recording) (p' : RespondPoint)
+    (after : Recording) : Type 0 where
+  pub keeps : Keeps before after
+  pub room : after.entries ≤ room_of after
   pub reaches : (me : SlaveState) (job : Job) (b : List ℕ) → count_of job count ≡ count → ((i : ℕ) → byte_at job bytes i ≡ get_or bytes i 0)
-      → Reaches (machine bytes) readings (slave me count (Responding (response job p))) e u l b
-      (slave me count (Responding (response job p'))) e' u' l' b
+      → Reaches (machine bytes) before.readings.now (slave me count (Responding (response job p)))
+      before.entries before.used before.log.now b
+      (slave me count (Responding (response job p'))) after.entries after.used after.log.now b
 
--- a chunk of so many bytes that leads straight on: the poll finds no abort, and readings and log are long enough
-pub record StraightChunk (readings : List ℕ) (u e room i count n : ℕ) : Type 0 where
-  pub ends : i + n ≡ chunk_end i count
+-- a chunk up to a byte that leads straight on: the poll finds no abort, and readings and log are long enough
+pub record StraightChunk (r : Recording) (i count end : ℕ) : Type 0 where
+  pub ends : end ≡ chunk_end i count
   pub before : i < count
-  pub quiet : tx_abrt (get_or readings u 0) ≡ false
-  pub left : u + 1 + n ≤ length readings
-  pub fits : e + n * 2 + 3 ≤ room
+  pub quiet : tx_abrt (get_or r.readings.now r.used 0) ≡ false
+  pub left : r.used + (end - i + 1) ≤ length r.readings.now
+  pub fits : r.entries + ((end - i) * 2 + 3) ≤ room_of r

@@ -1,11 +1,11 @@
--- `listen`: the loop's invariant `Awaiting` is a run of the slave to a later poll at the same point, with
--- four entries and two readings for each of n polls to come; `await_next` (proofs/Awaiting.antt) extends it
--- by a poll for which `is_idle_listen` holds. n decreases, and its bounds keep the indices in range.
-use Rattle.slave_fast_polls.proofs.Awaiting.{Awaiting}
+-- `listen`: the polls so far found nothing, and each puts entries, so the room in the log decreases.
+use Prim.Native.Nat.{◌-◌}
+use Rattle.regs.specs.Inner.Recording.{room_of}
+use Rattle.slave_fast_polls.specs.Inner.Idles.{Awaits}
 use Rattle.slave_fast_polls.proofs.listen.Given as goal
 
-abbrev pub invariant-loop-n : goal.invariant-loop-n
-invariant-loop-n l = Awaiting l.readings l.used l.initial.log l.entries l.log l.n l.u l.k
+abbrev pub invariant-loop : goal.invariant-loop
+invariant-loop l = Awaits l.initial.recording l.recording
 
-abbrev pub decreases-loop-n : goal.decreases-loop-n
-decreases-loop-n l = l.n
+abbrev pub decreases-loop : goal.decreases-loop
+decreases-loop l = room_of l.initial.recording - l.recording.entries

@@ -1,15 +1,13 @@
--- `burst`: the loop's invariant `Chunks` is a run of the response up to a poll at byte i; `one_chunk`
--- (proofs/Sending.antt) extends it by a chunk for which `planned` gave `StraightChunk`, whose bounds and
--- `chunk_bounds` keep all indices in range. The free entries of the log decrease.
-use Prim.Native.Nat.{◌/◌, ◌-◌}
-use lib.ListN.{length}
-use Rattle.slave_fast_bytes.proofs.Sending.{Chunks}
-use Rattle.slave_fast_bytes.proofs.Sending.{Chunks}
+-- `burst`: the chunks so far are a run of the response to a poll at byte i, and each puts entries, so the room in the
+-- log decreases.
+use Prim.Native.Nat.{◌-◌}
+use Rattle.regs.specs.Inner.Recording.{room_of}
+use Rattle.slave_respond.specs.declared.RespondPoint.TheVariants.{RawIntrStat}
+use Rattle.slave_fast_bytes.specs.Inner.Bursts.{Responds}
 use Rattle.slave_fast_bytes.proofs.respond.burst.Given as goal
 
-abbrev pub invariant-loop-n : goal.invariant-loop-n
-invariant-loop-n l =
-    Chunks l.from l.count l.bytes l.readings l.used l.initial.log l.entries l.log l.i l.u l.k
+abbrev pub invariant-loop-end : goal.invariant-loop-end
+invariant-loop-end l = Responds l.count l.bytes (RawIntrStat l.from) l.initial.recording (RawIntrStat l.i) l.recording
 
-abbrev pub decreases-loop-n : goal.decreases-loop-n
-decreases-loop-n l = length l.initial.log / 2 - l.k
+abbrev pub decreases-loop-end : goal.decreases-loop-end
+decreases-loop-end l = room_of l.initial.recording - l.recording.entries

@@ -1,13 +1,15 @@
--- `send`: the loop's invariant `Sending` is a run of the response to byte i of the chunk, with i, u and k
--- tied to `left`; `one_sent` (proofs/Sending.antt) extends it by a byte, `all_sent` ends it. `left`
--- decreases, and the precondition's bounds keep the indices in range.
-use native.Mathlib.Omega.{arith}
+-- `send`: `one_sent` of proofs/Sending.antt adds a byte to those before it, and `all_sent` ends the chunk.
+use Rattle.std.proofs.Common.{arith}
+use Rattle.regs_runs.proofs.Putting.{first_put, next_put}
 use Rattle.slave_fast_bytes.proofs.Sending.{one_sent, all_sent}
 use Rattle.slave_fast_bytes.proofs.respond.send.Goals as goal
 
-pub loop-left-preserved : goal.loop-left-preserved
-loop-left-preserved c = one_sent c.loop-left.invariant c.loop-left-test.true c.put_read.ensures
-    (rw c.wide.ensures at c.put_write.ensures)
+pub loop-i-preserved : goal.loop-i-preserved
+loop-i-preserved c =
+    let write = rw (c.from-in-loop-i.ensures, c.from.ensures) at c.put_write.ensures in
+    let keeps = c.loop-i.invariant.keeps in
+    one_sent c.loop-i.invariant c.loop-i-test.true (omega (arith, keeps.size)) (rw keeps.readings (omega arith))
+    (next_put (first_put c.put_read.ensures) write)
 
-pub returns : goal.returns
-returns c = all_sent c.loop-left.invariant (omega (arith, c.loop-left-test.false))
+pub returns-clause-sent : goal.returns-clause-sent
+returns-clause-sent c = all_sent c.loop-i.invariant c.loop-i-test.false

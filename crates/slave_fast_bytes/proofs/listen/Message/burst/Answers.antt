@@ -1,0 +1,18 @@
+-- `burst`: `drains_on` of proofs/Polling.antt adds a byte or a poll to those before it.
+use Rattle.std.proofs.Common.{arith}
+use Rattle.slave_fast_bytes.proofs.Polling.{drains_on}
+use Rattle.slave_fast_bytes.proofs.listen.Message.burst.Goals as goal
+
+pub loop-self-preserved-then-byte : goal.loop-self-preserved-then-byte
+loop-self-preserved-then-byte c = drains_on c.loop-self.invariant c.byte.ensures.drains
+
+pub loop-self-preserved : goal.loop-self-preserved
+loop-self-preserved c = drains_on (drains_on c.loop-self.invariant c.byte.ensures.drains) (c.poll.ensures.drains _)
+
+pub loop-self-smaller : goal.loop-self-smaller
+loop-self-smaller c =
+    let all = drains_on (drains_on c.loop-self.invariant c.byte.ensures.drains) (c.poll.ensures.drains c.byte.new.buffer) in
+    omega (arith, all.room, all.keeps.size, c.poll.ensures.made c.if-poll.true, c.byte.ensures.drains.up)
+
+pub returns-else-poll : goal.returns-else-poll
+returns-else-poll c = drains_on (drains_on c.loop-self.invariant c.byte.ensures.drains) (c.poll.ensures.drains _)
