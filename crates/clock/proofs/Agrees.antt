@@ -14,12 +14,13 @@ use Rattle.clock_setting.specs.SetConfig.{set_config, set_counts, set_registers,
 use Rattle.clock_setting.specs.SetConfig.{hold_below_1_mhz, hold_at_1_mhz, spklen, as_u16}
 use Rattle.clock_setting.specs.Datasheet.{hcnt, lcnt, hold}
 use Rattle.clock_setting.proofs.Table.{small}
-use Rattle.clock.specs.Inner.Machine.{machine, setting, fits, reaches, holds, start_of, after_disable}
-use Rattle.clock.specs.declared.Setting.{Setting}
-use Rattle.clock.specs.declared.Setting.TheVariants.{Legal, Illegal}
+use Rattle.clock.specs.Inner.Machine.{machine, setting, fits, reaches, holds, unless, start_of, after_disable}
+use Rattle.clock.specs.declared.Counts.{Counts}
+use Rattle.regs.specs.declared.answers.Refusal.{Refusal}
+use Rattle.std.specs.Prelude.{Result, Ok, Err}
 
 -- the machine at two limits of row 5, computed: a high count of 7, and 1 MHz at 32,000,000 Hz
-limits : (setting 100000 1700000 ≡ Illegal ClockTooSlow) × (setting 1000000 32000000 ≡ Illegal ClockTooSlow)
+limits : (setting 100000 1700000 ≡ Err ClockTooSlow) × (setting 1000000 32000000 ≡ Err ClockTooSlow)
 unfolding fits reaches holds hold hold_below_1_mhz hold_at_1_mhz period lcnt_of hcnt_of
 limits = (refl, refl)
 
@@ -31,8 +32,8 @@ hold_test l d h =
     (λ q. let a : d ≤ l - 2 = ltb-false (l - 2) d q in rw (q, le-ltb l (d + 2) (omega arith)))
 
 module _ (f clk h l : ℕ) where
-  abbrev legal : ℕ → Setting
-  legal d = Legal (record { hcnt = h; lcnt = l; spklen = spklen l; hold = d })
+  abbrev legal : ℕ → Result Counts Refusal
+  legal d = Ok (record { hcnt = h; lcnt = l; spklen = spklen l; hold = d })
 
   -- the counts are written
   written : (d m n : ℕ) (b : List ℕ)
@@ -51,7 +52,7 @@ module _ (f clk h l : ℕ) where
 
   -- the tests of the counts, in the Rust's order
   tested : (m n : ℕ) (b : List ℕ)
-      → Agree machine m (after_disable (fits h l (reaches h l (holds f clk l (hold f clk) (legal (hold f clk)))))) b
+      → Agree machine m (after_disable (unless (fits h l) (unless (reaches h l) (unless (holds f clk l (hold f clk)) (legal (hold f clk)))))) b
       b tt (set_counts f clk h l n ends)
   unfolding fits reaches holds hold hold_below_1_mhz hold_at_1_mhz
   tested m n b =

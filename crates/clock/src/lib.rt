@@ -12,7 +12,7 @@ ghost use Rattle.clock.specs.Inner.Machine.{fits, reaches, holds, setting, start
 ghost use Rattle.clock.specs.Inner.Machine.{range, after_disable};
 ghost use Rattle.clock.specs.Inner.Machine.{advance_of, machine};
 
-use clock_setting::{Rate, Rated};
+use clock_setting::Rate;
 use regs::access::{Next, Ran, Recording};
 use regs::answers::{Answer, Refusal};
 
@@ -25,24 +25,10 @@ pub struct Counts {
     pub hold: u16,
 }
 
-// Whether a frequency and a clock are looked at further: what is tested before the first access.
-#[derive(Clone, Copy)]
-pub enum Range {
-    Within,
-    Outside(Refusal),
-}
-
-// What a frequency and a clock in range come to.
-#[derive(Clone, Copy)]
-pub enum Setting {
-    Legal(Counts),
-    Illegal(Refusal),
-}
-
 // Where clock setup stands: the access that is next.
 #[derive(Clone, Copy)]
 pub enum ClockPoint {
-    Disable(Setting),
+    Disable(Result<Counts, Refusal>),
     Hcnt(Counts),
     Lcnt(Counts),
     Spklen(Counts),
@@ -99,83 +85,78 @@ fn spklen_of(lcnt: u32) -> u32
     if lcnt < 16 { 1 } else { (lcnt >> 4) & 0xff }
 }
 
-fn if_fits(h: u32, l: u32, s: Setting) -> Setting
-    ensures { result ≡ fits h l s }
+// Whether the counts fit their registers.
+#[tactic(auto, unfolding(crate::specs::Inner::Machine::fits))]
+fn if_fits(hcnt: u32, lcnt: u32) -> Result<(), Refusal>
+    ensures { result ≡ fits hcnt lcnt }
 {
-    if 0xffff < h {
-        return Setting::Illegal(Refusal::ClockTooFast);
+    if 0xffff < hcnt || 0xffff < lcnt {
+        return Err(Refusal::ClockTooFast);
     }
-    if 0xffff < l {
-        return Setting::Illegal(Refusal::ClockTooFast);
-    }
-    s
+    Ok(())
 }
 
-fn if_reaches(h: u32, l: u32, s: Setting) -> Setting
-    ensures { result ≡ reaches h l s }
+// Whether the clock is fast enough for the counts.
+#[tactic(auto, unfolding(crate::specs::Inner::Machine::reaches))]
+fn if_reaches(hcnt: u32, lcnt: u32) -> Result<(), Refusal>
+    ensures { result ≡ reaches hcnt lcnt }
 {
-    if h < 8 {
-        return Setting::Illegal(Refusal::ClockTooSlow);
+    if hcnt < 8 || lcnt < 8 {
+        return Err(Refusal::ClockTooSlow);
     }
-    if l < 8 {
-        return Setting::Illegal(Refusal::ClockTooSlow);
-    }
-    s
+    Ok(())
 }
 
-fn if_holds(frequency: u32, clk: u32, l: u32, d: u32, s: Setting) -> Setting
-    requires { d < 1000 }
-    ensures { result ≡ holds frequency clk l d s }
+// Whether the hold time is short enough for the low count, and 1 MHz has a clock above 32 MHz.
+#[tactic(auto, unfolding(crate::specs::Inner::Machine::holds))]
+fn if_holds(frequency: u32, clk: u32, lcnt: u32, hold: u16) -> Result<(), Refusal>
+    ensures { result ≡ holds frequency clk lcnt hold }
 {
-    if frequency < 1_000_000 {
-        if l < d + 2 {
-            return Setting::Illegal(Refusal::ClockTooSlow);
-        }
-        return s;
+    if 1_000_000 <= frequency && clk < 32_000_001 {
+        return Err(Refusal::ClockTooSlow);
     }
-    if clk < 32_000_001 {
-        return Setting::Illegal(Refusal::ClockTooSlow);
+    if lcnt < u32::from(hold) + 2 {
+        return Err(Refusal::ClockTooSlow);
     }
-    if l < d + 2 {
-        return Setting::Illegal(Refusal::ClockTooSlow);
-    }
-    s
+    Ok(())
 }
 
-fn setting_of(frequency: u32, clk: u32) -> Setting
+// What a frequency and a clock in range come to.
+fn setting_of(frequency: u32, clk: u32) -> Result<Counts, Refusal>
     requires { (0 < frequency)
         × (frequency ≤ 1000000)
         × (clk ≤ 1431655765) }
     ensures { result ≡ setting frequency clk }
 {
-    let p = period_of(frequency, clk);
-    let l = low_of(p);
-    let h = high_of(p, l);
-    let d = hold_of(frequency, clk);
-    let n = Counts {
-        hcnt: h,
-        lcnt: l,
-        spklen: spklen_of(l),
-        hold: d,
-    };
-    let held = if_holds(frequency, clk, l, d as u32, Setting::Legal(n));
-    let reached = if_reaches(h, l, held);
-    if_fits(h, l, reached)
+    let period = period_of(frequency, clk);
+    let lcnt = low_of(period);
+    let hcnt = high_of(period, lcnt);
+    let hold = hold_of(frequency, clk);
+    if_fits(hcnt, lcnt)?;
+    if_reaches(hcnt, lcnt)?;
+    if_holds(frequency, clk, lcnt, hold)?;
+    Ok(Counts {
+        hcnt,
+        lcnt,
+        spklen: spklen_of(lcnt),
+        hold,
+    })
 }
 
-fn range_of(frequency: u32, clk: u32) -> Range
+// Whether a frequency and a clock are looked at further: what is tested before the first access.
+fn range_of(frequency: u32, clk: u32) -> Result<(), Refusal>
     ensures { result ≡ range frequency clk }
 {
     if 1_000_000 < frequency {
-        return Range::Outside(Refusal::FrequencyTooHigh);
+        return Err(Refusal::FrequencyTooHigh);
     }
     if frequency == 0 {
-        return Range::Outside(Refusal::FrequencyZero);
+        return Err(Refusal::FrequencyZero);
     }
     if 1_431_655_765 < clk {
-        return Range::Outside(Refusal::ClockOutOfRange);
+        return Err(Refusal::ClockOutOfRange);
     }
-    Range::Within
+    Ok(())
 }
 
 // The first access of clock setup, or its refusal.
@@ -183,8 +164,8 @@ pub fn start(frequency: u32, clk: u32) -> ClockPoint
     ensures { result ≡ start_of frequency clk }
 {
     match range_of(frequency, clk) {
-        Range::Within => ClockPoint::Disable(setting_of(frequency, clk)),
-        Range::Outside(why) => ClockPoint::Finished(Answer::Refused(why)),
+        Ok(()) => ClockPoint::Disable(setting_of(frequency, clk)),
+        Err(why) => ClockPoint::Finished(Answer::Refused(why)),
     }
 }
 
@@ -204,12 +185,12 @@ pub fn next_access(p: ClockPoint) -> Next
     }
 }
 
-fn disabled(s: Setting) -> ClockPoint
-    ensures { result ≡ after_disable s }
+fn disabled(setting: Result<Counts, Refusal>) -> ClockPoint
+    ensures { result ≡ after_disable setting }
 {
-    match s {
-        Setting::Legal(n) => ClockPoint::Hcnt(n),
-        Setting::Illegal(r) => ClockPoint::Finished(Answer::Refused(r)),
+    match setting {
+        Ok(n) => ClockPoint::Hcnt(n),
+        Err(why) => ClockPoint::Finished(Answer::Refused(why)),
     }
 }
 
@@ -257,21 +238,14 @@ pub fn set_config(frequency: u32, clk: u32, readings: &[u32], log: &mut [u32]) -
 
 // The rate that the bus gets from a setting, by the counts that `set_config` writes for it, or
 // the refusal of `set_config`. No register is needed for it.
-pub fn bus_rate(frequency: u32, clk: u32) -> Rated
+pub fn bus_rate(frequency: u32, clk: u32) -> Result<Rate, Refusal>
     ensures { result ≡ rated frequency clk }
 {
-    match range_of(frequency, clk) {
-        Range::Within => match setting_of(frequency, clk) {
-            Setting::Legal(n) => {
-                let high = n.hcnt;
-                let low = n.lcnt;
-                let periods = high + low;
-                let hz = clk / periods;
-                let remainder = clk % periods;
-                Rated::At(Rate { hz, remainder })
-            }
-            Setting::Illegal(why) => Rated::Refused(why),
-        },
-        Range::Outside(why) => Rated::Refused(why),
-    }
+    range_of(frequency, clk)?;
+    let n = setting_of(frequency, clk)?;
+    let periods = n.hcnt + n.lcnt;
+    Ok(Rate {
+        hz: clk / periods,
+        remainder: clk % periods,
+    })
 }

@@ -21,8 +21,8 @@ use Rattle.regs.specs.declared.answers.Answer.{Answer}
 use Rattle.regs.specs.declared.answers.Reply.TheVariants.{Answered, LogFull, OutOfReadings}
 use Rattle.regs.specs.declared.answers.Refusal.TheVariants.{FrequencyTooHigh, FrequencyZero, ClockOutOfRange, ClockTooFast, ClockTooSlow}
 use Rattle.clock_setting.specs.declared.Rate.{Rate}
-use Rattle.clock_setting.specs.declared.Rated.{Rated}
-use Rattle.clock_setting.specs.declared.Rated.TheVariants.{At, Refused}
+use Rattle.std.specs.Prelude.{Result, Ok, Err}
+use Rattle.regs.specs.declared.answers.Refusal.{Refusal}
 use Rattle.clock_setting.specs.SetConfig.{set_config, period, lcnt_of, hcnt_of, hold_below_1_mhz, hold_at_1_mhz, spklen}
 use Rattle.clock_setting.specs.Datasheet.{hcnt, lcnt}
 use Rattle.clock_setting.specs.Table.{FirstRow}
@@ -39,16 +39,16 @@ use Rattle.clock_setting.proofs.Counted.{lawful, not_zero, between, periods_reac
 abbrev periods : ℕ → ℕ → ℕ
 periods f clk = hcnt f clk + lcnt f clk
 
-abbrev by_row : ℕ → ℕ → ℕ → Rated
+abbrev by_row : ℕ → ℕ → ℕ → Result Rate Refusal
 by_row zero f clk = divided clk (periods f clk)
-by_row (suc zero) f clk = Refused FrequencyTooHigh
-by_row (suc (suc zero)) f clk = Refused FrequencyZero
-by_row (suc (suc (suc zero))) f clk = Refused ClockOutOfRange
-by_row (suc (suc (suc (suc zero)))) f clk = Refused ClockTooFast
-by_row (suc (suc (suc (suc (suc k))))) f clk = Refused ClockTooSlow
+by_row (suc zero) f clk = Err FrequencyTooHigh
+by_row (suc (suc zero)) f clk = Err FrequencyZero
+by_row (suc (suc (suc zero))) f clk = Err ClockOutOfRange
+by_row (suc (suc (suc (suc zero)))) f clk = Err ClockTooFast
+by_row (suc (suc (suc (suc (suc k))))) f clk = Err ClockTooSlow
 
 -- what is answered with room for seven entries and a reading
-answered : Behaviour (Unit {0}) Answer → Rated → Rated
+answered : Behaviour (Unit {0}) Answer → Result Rate Refusal → Result Rate Refusal
 answered b r = unless_refused (outcome Answered LogFull OutOfReadings b 7 (0 ∷ []) [] tt).answer r
 
 answered_row : (k f clk : ℕ) → answered (does k f clk) (divided clk (periods f clk)) ≡ by_row k f clk
@@ -192,7 +192,7 @@ record Given (f clk : ℕ) (rate : Rate) : Type 0 where
   passes : FirstRow 0 f clk
   value : rate ≡ record { hz = clk / periods f clk; remainder = clk % periods f clk }
 
-given : (f clk : ℕ) (rate : Rate) → rated f clk ≡ At rate → Given f clk rate
+given : (f clk : ℕ) (rate : Rate) → rated f clk ≡ Ok rate → Given f clk rate
 given f clk rate e =
     let n : FirstRow 0 f clk = ((rated_by_table f clk).exactly 0).0 (rw e refl) in
     let p = placed f clk in
@@ -281,10 +281,10 @@ at_1_mhz f clk n e =
     (omega arith) (omega (arith, div-add-mod' clk (periods f clk))) w
 
 -- a 36th above the limit
-a_36th : (most hz f clk : ℕ) (rate : Rate) → 37 * most ≤ 36 * (hz + 1) → f ≤ most → rated f clk ≡ At rate → rate.hz ≤ hz
+a_36th : (most hz f clk : ℕ) (rate : Rate) → 37 * most ≤ 36 * (hz + 1) → f ≤ most → rated f clk ≡ Ok rate → rate.hz ≤ hz
 a_36th most hz f clk rate b h e = omega (arith, (near_wanted f clk rate e).hz_not_fast)
 
-a_64th : (f clk : ℕ) (rate : Rate) → f ≡ 1000000 → rated f clk ≡ At rate → rate.hz ≤ 1015624
+a_64th : (f clk : ℕ) (rate : Rate) → f ≡ 1000000 → rated f clk ≡ Ok rate → rate.hz ≤ 1015624
 a_64th f clk rate h e = let g = given f clk rate e in rw g.value (omega (arith, at_1_mhz f clk g.passes h))
 
 -- THE CLAIM: the fastest rates of UM10204's modes, and at 1 MHz

@@ -1,18 +1,17 @@
 -- The rate that the bus gets from a setting, by its counts: clk ÷ (hcnt + lcnt). What is claimed of it: it is the rate of the
 -- counts in `set_config`'s log; exactly the settings that `set_config` accepts have one; and how far it is from the wanted
 -- frequency. Clock periods that the controller adds by itself, and the time that edges take, are not in it.
-use Rattle.std.specs.Prelude.{ℕ, ◌+◌, ◌*◌, ◌/◌, ◌%◌, ◌<◌, ◌≤◌, List, [], ◌∷◌, ◌↔◌, ◌≡◌, replicate, take}
+use Rattle.std.specs.Prelude.{ℕ, ◌+◌, ◌*◌, ◌/◌, ◌%◌, ◌<◌, ◌≤◌, List, [], ◌∷◌, ◌↔◌, ◌≡◌, replicate, take, Result, Ok, Err}
 use Rattle.regs.specs.Registers.{FS_SCL_HCNT, FS_SCL_LCNT}
 use Rattle.regs.specs.Answers.{refusal_number, number}
 use Rattle.regs.specs.Log.{decode, written_to, expected, Leaves}
 use Rattle.regs.specs.declared.access.Entry.{Entry}
 use Rattle.regs.specs.declared.access.Ran.{Ran}
 use Rattle.regs.specs.declared.answers.Answer.TheVariants as A
+use Rattle.regs.specs.declared.answers.Refusal.{Refusal}
 use Rattle.regs.specs.declared.answers.Reply.{Reply}
 use Rattle.regs.specs.declared.answers.Reply.TheVariants.{Answered, OutOfReadings, LogFull}
 use Rattle.clock_setting.specs.declared.Rate.{Rate}
-use Rattle.clock_setting.specs.declared.Rated.{Rated}
-use Rattle.clock_setting.specs.declared.Rated.TheVariants.{At, Refused}
 use Rattle.clock_setting.specs.SetConfig.{set_config}
 use Rattle.clock_setting.specs.Datasheet.{hcnt, lcnt}
 use Rattle.clock_setting.specs.Table.{FirstRow}
@@ -22,34 +21,34 @@ abbrev pub answer_of : ℕ → ℕ → Reply
 answer_of frequency clk = (expected (set_config frequency clk) (replicate 14 0) (0 ∷ []) [] tt).answer
 
 -- the clock, divided by the clock periods in one period of the bus
-abbrev pub divided : ℕ → ℕ → Rated
-divided clk periods = At (record { hz = clk / periods; remainder = clk % periods })
+abbrev pub divided : ℕ → ℕ → Result Rate Refusal
+divided clk periods = Ok (record { hz = clk / periods; remainder = clk % periods })
 
 -- a setting that is refused has no rate; of the other replies `answer_of` gives only Accepted
-abbrev pub unless_refused : Reply → Rated → Rated
-unless_refused (Answered (A.Refused why)) r = Refused why
+abbrev pub unless_refused : Reply → Result Rate Refusal → Result Rate Refusal
+unless_refused (Answered (A.Refused why)) r = Err why
 unless_refused (Answered A.Accepted) r = r
 unless_refused (Answered (A.Heard command)) r = r
 unless_refused (Answered (A.Responded status)) r = r
 unless_refused OutOfReadings r = r
 unless_refused LogFull r = r
 
-unfoldable pub rated : ℕ → ℕ → Rated
+unfoldable pub rated : ℕ → ℕ → Result Rate Refusal
 rated frequency clk =
     unless_refused (answer_of frequency clk) (divided clk (hcnt frequency clk + lcnt frequency clk))
 
 -- as numbers: 0 for a rate, else the number of the refusal; a refusal has 0 for both values
-abbrev pub rate_number : Rated → ℕ
-rate_number (At rate) = 0
-rate_number (Refused why) = refusal_number why
+abbrev pub rate_number : Result Rate Refusal → ℕ
+rate_number (Ok rate) = 0
+rate_number (Err why) = refusal_number why
 
-abbrev pub rate_hz : Rated → ℕ
-rate_hz (At rate) = rate.hz
-rate_hz (Refused why) = 0
+abbrev pub rate_hz : Result Rate Refusal → ℕ
+rate_hz (Ok rate) = rate.hz
+rate_hz (Err why) = 0
 
-abbrev pub rate_remainder : Rated → ℕ
-rate_remainder (At rate) = rate.remainder
-rate_remainder (Refused why) = 0
+abbrev pub rate_remainder : Result Rate Refusal → ℕ
+rate_remainder (Ok rate) = rate.remainder
+rate_remainder (Err why) = 0
 
 -- ---- against `set_config`
 
@@ -64,9 +63,9 @@ pub record RateOf (clk : ℕ) (log : List Entry) (rate : Rate) : Type 0 where
 
 -- If `set_config` accepted, r is the rate of its log; if it refused, r is the same refusal. Of a run that ended in 18 or 19
 -- nothing is claimed, and there are no other replies.
-abbrev pub RatedAs : ℕ → Reply → List Entry → Rated → Type 0
-RatedAs clk (Answered A.Accepted) log r = (rate : Rate) × ((r ≡ At rate) × RateOf clk log rate)
-RatedAs clk (Answered (A.Refused why)) log r = r ≡ Refused why
+abbrev pub RatedAs : ℕ → Reply → List Entry → Result Rate Refusal → Type 0
+RatedAs clk (Answered A.Accepted) log r = (rate : Rate) × ((r ≡ Ok rate) × RateOf clk log rate)
+RatedAs clk (Answered (A.Refused why)) log r = r ≡ Err why
 RatedAs clk (Answered (A.Heard command)) log r = ⊥
 RatedAs clk (Answered (A.Responded status)) log r = ⊥
 RatedAs clk OutOfReadings log r = Unit {0}
@@ -109,13 +108,13 @@ pub record Near (frequency clk periods : ℕ) (rate : Rate) : Type 0 where
 
 abbrev pub NearWanted : Type 0
 NearWanted = (frequency clk : ℕ) (rate : Rate)
-    → rated frequency clk ≡ At rate
+    → rated frequency clk ≡ Ok rate
     → Near frequency clk (hcnt frequency clk + lcnt frequency clk) rate
 
 -- of the settings that are accepted, exactly those whose clock is a multiple of the frequency get it exactly
 abbrev pub ExactOfMultiples : Type 0
 ExactOfMultiples = (frequency clk : ℕ) (rate : Rate)
-    → rated frequency clk ≡ At rate
+    → rated frequency clk ≡ Ok rate
     → ((rate.hz ≡ frequency) × (rate.remainder ≡ 0)) ↔ ((k : ℕ) × (clk ≡ k * frequency))
 
 -- the largest rate in whole Hz of the settings of `least` Hz to `most` Hz: none is larger, and one is as large
@@ -123,13 +122,13 @@ pub record Fastest (least most hz : ℕ) : Type 0 where
   pub none_faster : (frequency clk : ℕ) (rate : Rate)
       → least ≤ frequency
       → frequency ≤ most
-      → rated frequency clk ≡ At rate
+      → rated frequency clk ≡ Ok rate
       → rate.hz ≤ hz
   pub frequency : ℕ
   pub clk : ℕ
   pub remainder : ℕ
   pub within : (least ≤ frequency) × (frequency ≤ most)
-  pub reached : rated frequency clk ≡ At (record { hz = hz; remainder = remainder })
+  pub reached : rated frequency clk ≡ Ok (record { hz = hz; remainder = remainder })
 
 -- of UM10204's standard mode, fast mode and fast mode plus, and of a wanted 1 MHz: by the counts the bus can be faster than
 -- the mode allows, though nothing above that was asked for (docs/DIFFERENCES.md)

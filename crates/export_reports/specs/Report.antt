@@ -1,5 +1,5 @@
 -- What an exported call returns and leaves, in terms of the outcome of the call that it forwards to.
-use Rattle.std.specs.Prelude.{◌≡◌, ℕ, ◌*◌, Bool, true, false, List, ◌++◌, length, drop, Option, Some, None, is_some, unwrap_or}
+use Rattle.std.specs.Prelude.{◌≡◌, ℕ, ◌*◌, Bool, true, false, List, ◌++◌, length, drop, Option, Some, None, is_some, unwrap_or, Result}
 use Rattle.regs.specs.Program.{Outcome}
 use Rattle.regs.specs.Log.{encode, reads_in}
 use Rattle.regs.specs.Answers.{number, detail}
@@ -7,7 +7,8 @@ use Rattle.regs.specs.declared.access.Ran.{Ran}
 use Rattle.regs.specs.declared.answers.Reply.{Reply}
 use Rattle.regs_causes.specs.declared.Counted.{Counted}
 use Rattle.clock_setting.specs.BusRate.{rate_number, rate_hz, rate_remainder}
-use Rattle.clock_setting.specs.declared.Rated.{Rated}
+use Rattle.clock_setting.specs.declared.Rate.{Rate}
+use Rattle.regs.specs.declared.answers.Refusal.{Refusal}
 use Rattle.slave.specs.declared.SlaveState.{SlaveState}
 use Rattle.export_reports.specs.declared.AbortCauses.{AbortCauses}
 use Rattle.export_reports.specs.declared.BusRate.{BusRate}
@@ -20,7 +21,7 @@ abbrev pub report_of : Ran → Report
 report_of ran = record { number = number ran.reply; detail = detail ran.reply; entries = ran.entries; used = ran.used }
 
 -- a rate, or a refusal, as its number and its two values
-abbrev pub rate_of : Rated → BusRate
+abbrev pub rate_of : Result Rate Refusal → BusRate
 rate_of r = record { number = rate_number r; hz = rate_hz r; remainder = rate_remainder r }
 
 -- the causes of an abort as their count and the lowest; no cause has 0 for both

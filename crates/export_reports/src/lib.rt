@@ -6,9 +6,9 @@ ghost use Rattle.std.specs.Prelude.{◌≡◌};
 ghost use Rattle.export_reports.specs.Report.{report_of, rate_of, cause_numbers};
 ghost use Rattle.export_reports.specs.Report.{pending_of, state_of, numbers_of};
 
-use clock_setting::Rated;
+use clock_setting::Rate;
 use regs::access::Ran;
-use regs::answers::{Answer, Reply};
+use regs::answers::{Answer, Refusal, Reply};
 use regs_causes::Counted;
 use slave::SlaveState;
 
@@ -72,16 +72,16 @@ pub fn told(ran: Ran) -> Report
     }
 }
 
-pub fn told_rate(rated: Rated) -> BusRate
+pub fn told_rate(rated: Result<Rate, Refusal>) -> BusRate
     ensures { result ≡ rate_of rated }
 {
     match rated {
-        Rated::At(rate) => BusRate {
+        Ok(rate) => BusRate {
             number: 0,
             hz: rate.hz,
             remainder: rate.remainder,
         },
-        Rated::Refused(why) => BusRate {
+        Err(why) => BusRate {
             number: regs_numbers::number_of(Reply::Answered(Answer::Refused(why))),
             hz: 0,
             remainder: 0,

@@ -1,19 +1,16 @@
 -- Clock setup as a machine of one access a step. Only contracts of inner functions cite this.
-use Rattle.std.specs.Prelude.{ℕ, ◌+◌, eqb, ltb, if◌then◌else◌, None}
+use Rattle.std.specs.Prelude.{ℕ, ◌+◌, eqb, ltb, if◌then◌else◌, None, Result, Ok, Err}
 use Rattle.regs.specs.Registers.{ENABLE, FS_SCL_HCNT, FS_SCL_LCNT, FS_SPKLEN, SDA_HOLD}
 use Rattle.regs.specs.Fields.{set_ic_sda_tx_hold}
 use Rattle.regs.specs.Steps.{Machine}
 use Rattle.regs.specs.declared.answers.Answer.TheVariants.{Accepted, Refused}
+use Rattle.regs.specs.declared.answers.Refusal.{Refusal}
 use Rattle.regs.specs.declared.answers.Refusal.TheVariants as R
 use Rattle.regs.specs.declared.access.Next.{Next}
 use Rattle.regs.specs.declared.access.Next.TheVariants as N
 use Rattle.clock_setting.specs.SetConfig.{spklen}
 use Rattle.clock_setting.specs.Datasheet.{hcnt, lcnt, hold}
 use Rattle.clock.specs.declared.Counts.{Counts}
-use Rattle.clock.specs.declared.Range.{Range}
-use Rattle.clock.specs.declared.Range.TheVariants.{Within, Outside}
-use Rattle.clock.specs.declared.Setting.{Setting}
-use Rattle.clock.specs.declared.Setting.TheVariants.{Legal, Illegal}
 use Rattle.clock.specs.declared.ClockPoint.{ClockPoint}
 use Rattle.clock.specs.declared.ClockPoint.TheVariants.{Disable, Hcnt, Lcnt, Spklen, Hold, SetHold, Enable, Finished}
 
@@ -26,32 +23,37 @@ counts frequency clk = record {
 }
 
 -- whether the counts fit their registers, and whether the clock is fast enough for them
-unfoldable pub fits : ℕ → ℕ → Setting → Setting
-fits h l s = if ltb 0xffff h then Illegal R.ClockTooFast else (if ltb 0xffff l then Illegal R.ClockTooFast else s)
+unfoldable pub fits : ℕ → ℕ → Result (Unit {0}) Refusal
+fits h l = if ltb 0xffff h then Err R.ClockTooFast else (if ltb 0xffff l then Err R.ClockTooFast else Ok tt)
 
-unfoldable pub reaches : ℕ → ℕ → Setting → Setting
-reaches h l s = if ltb h 8 then Illegal R.ClockTooSlow else (if ltb l 8 then Illegal R.ClockTooSlow else s)
+unfoldable pub reaches : ℕ → ℕ → Result (Unit {0}) Refusal
+reaches h l = if ltb h 8 then Err R.ClockTooSlow else (if ltb l 8 then Err R.ClockTooSlow else Ok tt)
 
-unfoldable pub holds : ℕ → ℕ → ℕ → ℕ → Setting → Setting
-holds frequency clk l d s =
-    if ltb frequency 1000000 then (if ltb l (d + 2) then Illegal R.ClockTooSlow else s)
-    else (if ltb clk 32000001 then Illegal R.ClockTooSlow else (if ltb l (d + 2) then Illegal R.ClockTooSlow else s))
+unfoldable pub holds : ℕ → ℕ → ℕ → ℕ → Result (Unit {0}) Refusal
+holds frequency clk l d =
+    if ltb frequency 1000000 then (if ltb l (d + 2) then Err R.ClockTooSlow else Ok tt)
+    else (if ltb clk 32000001 then Err R.ClockTooSlow else (if ltb l (d + 2) then Err R.ClockTooSlow else Ok tt))
 
-abbrev pub setting : ℕ → ℕ → Setting
+-- the first refusal of a test and of what comes after it
+abbrev pub unless : Result (Unit {0}) Refusal → Result Counts Refusal → Result Counts Refusal
+unless (Ok u) s = s
+unless (Err why) s = Err why
+
+abbrev pub setting : ℕ → ℕ → Result Counts Refusal
 setting frequency clk =
-    fits (hcnt frequency clk) (lcnt frequency clk)
-    (reaches (hcnt frequency clk) (lcnt frequency clk)
-    (holds frequency clk (lcnt frequency clk) (hold frequency clk) (Legal (counts frequency clk))))
+    unless (fits (hcnt frequency clk) (lcnt frequency clk))
+    (unless (reaches (hcnt frequency clk) (lcnt frequency clk))
+    (unless (holds frequency clk (lcnt frequency clk) (hold frequency clk)) (Ok (counts frequency clk))))
 
-abbrev pub range : ℕ → ℕ → Range
+abbrev pub range : ℕ → ℕ → Result (Unit {0}) Refusal
 range frequency clk =
-    if ltb 1000000 frequency then Outside R.FrequencyTooHigh
-    else (if eqb frequency 0 then Outside R.FrequencyZero
-    else (if ltb 1431655765 clk then Outside R.ClockOutOfRange else Within))
+    if ltb 1000000 frequency then Err R.FrequencyTooHigh
+    else (if eqb frequency 0 then Err R.FrequencyZero
+    else (if ltb 1431655765 clk then Err R.ClockOutOfRange else Ok tt))
 
-abbrev pub start_in : Range → Setting → ClockPoint
-start_in Within s = Disable s
-start_in (Outside why) s = Finished (Refused why)
+abbrev pub start_in : Result (Unit {0}) Refusal → Result Counts Refusal → ClockPoint
+start_in (Ok u) s = Disable s
+start_in (Err why) s = Finished (Refused why)
 
 abbrev pub start_of : ℕ → ℕ → ClockPoint
 start_of frequency clk = start_in (range frequency clk) (setting frequency clk)
@@ -66,9 +68,9 @@ next_of (SetHold w) = N.Write SDA_HOLD w
 next_of Enable = N.Write ENABLE 1
 next_of (Finished a) = N.Finished a
 
-abbrev pub after_disable : Setting → ClockPoint
-after_disable (Legal n) = Hcnt n
-after_disable (Illegal r) = Finished (Refused r)
+abbrev pub after_disable : Result Counts Refusal → ClockPoint
+after_disable (Ok n) = Hcnt n
+after_disable (Err why) = Finished (Refused why)
 
 abbrev pub advance_of : ClockPoint → ℕ → ClockPoint
 advance_of (Disable s) v = after_disable s
