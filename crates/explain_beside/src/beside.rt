@@ -1,31 +1,20 @@
 // The text of a frame, with what its word put on the bus. Each function
 // puts its text at `at` of a lent buffer and returns where the text ends.
 ghost use Rattle.std.specs.Prelude.{◌≡◌, ◌+◌, ◌-◌, ◌<◌, ◌≤◌, length, replicate};
+ghost use Rattle.text_hex.specs.Added.{Room, Added};
 ghost use Rattle.text_hex.specs.Appended.{Appended};
 ghost use Rattle.bus.specs.Bus.{signs_of};
 ghost use Rattle.explain_bus.specs.Line.{signs_text};
 ghost use Rattle.explain_beside.specs.Piece.{bus_head, word_line, told_of, told};
-ghost use Rattle.explain_beside.specs.Inner.Parts.{direction_letter_of, addressed_text, opening_text};
+ghost use Rattle.explain_beside.specs.Inner.Parts.{addressed_text, opening_text};
 ghost use Rattle.explain_beside.specs.Inner.Parts.{condition_row, data_text, closing_text};
 
 use super::transfer::{Transfer, written};
 use bus::{Bus, Condition};
-use explain_bus::line::{push_kind, push_name, push_run};
+use explain_bus::line::{letter, push_byte, push_name, push_run};
 use explain_frames::{explain, push_words};
 use regs::fields::{byte_of, has_stop, is_read};
-use text_hex::print::{push, push2};
-
-fn letter(read: bool) -> u8
-    ensures { result ≡ direction_letter_of read }
-{
-    if read { b'r' } else { b'w' }
-}
-
-fn wide(b: u8) -> u32
-    ensures { result ≡ b }
-{
-    b as u32
-}
+use text_hex::text::Text;
 
 fn row_of(condition: Condition) -> usize
     ensures row { result ≡ condition_row condition }
@@ -38,108 +27,93 @@ fn row_of(condition: Condition) -> usize
 }
 
 // START or RESTART, and the address with its direction.
-fn push_addressed(out: &mut [u8], at: usize, row: usize, address: u32, read: bool) -> usize
-    requires { (at + 13 ≤ length out.old)
-        × (row < 3) }
-    ensures { Appended out.old at (addressed_text row address read) 13 out.new
-        result }
+fn push_addressed(text: &mut Text, row: usize, address: u32, read: bool)
+    requires room { Room 13 text.old }
+    requires in_table { row < 3 }
+    ensures { Added text.old (addressed_text row address read) 13 text.new }
 {
-    let a = push_name(out, at, row);
-    let b = push(out, a, b' ');
-    let c = push2(out, b, address);
-    push(out, c, letter(read))
+    push_name(text, row);
+    text.push(b' ');
+    text.push_hex2(address);
+    text.push(letter(read));
 }
 
-fn push_opening(
-    out: &mut [u8],
-    at: usize,
-    condition: Option<Condition>,
-    address: u32,
-    read: bool,
-) -> usize
-    requires { at + 13 ≤ length out.old }
-    ensures { Appended out.old at (opening_text condition address read) 13 out.new result }
+#[tactic(auto, using(text_hex::proofs::Adding::no_text), unfolding(crate::specs::Inner::Parts::opening_text))]
+fn push_opening(text: &mut Text, condition: Option<Condition>, address: u32, read: bool)
+    requires { Room 13 text.old }
+    ensures { Added text.old (opening_text condition address read) 13 text.new }
 {
-    match condition {
-        None => at,
-        Some(first) => push_addressed(out, at, row_of(first), address, read),
+    if let Some(first) = condition {
+        push_addressed(text, row_of(first), address, read);
     }
 }
 
 // A written byte, or one read slot.
-fn push_data(out: &mut [u8], at: usize, read: bool, w: u32) -> usize
-    requires { at + 9 ≤ length out.old }
-    ensures { Appended out.old at (data_text read w) 9 out.new result }
+#[tactic(auto, using(text_hex::proofs::Adding::at_most))]
+fn push_data(text: &mut Text, read: bool, w: u32)
+    requires { Room 9 text.old }
+    ensures { Added text.old (data_text read w) 9 text.new }
 {
     if read {
-        return push_run(out, at, 1);
+        push_run(text, 1);
+    } else {
+        push_byte(text, u32::from(byte_of(w)));
     }
-    push_kind(out, at, 5, wide(byte_of(w)))
 }
 
-fn push_closing(out: &mut [u8], at: usize, last: bool) -> usize
-    requires { at + 9 ≤ length out.old }
-    ensures { Appended out.old at (closing_text last) 9 out.new result }
+#[tactic(auto, using(text_hex::proofs::Adding::no_text))]
+fn push_closing(text: &mut Text, last: bool)
+    requires { Room 9 text.old }
+    ensures { Added text.old (closing_text last) 9 text.new }
 {
     if last {
-        return push_name(out, at, 2);
+        push_name(text, 2);
     }
-    at
 }
 
 // What a word makes of the bus.
-fn push_piece(out: &mut [u8], at: usize, bus: Bus, address: u32, w: u32) -> usize
-    requires { at + 31 ≤ length out.old }
-    ensures { Appended out.old at
-        (signs_text 0 (signs_of bus address w))
-        31 out.new result }
+fn push_piece(text: &mut Text, bus: Bus, address: u32, w: u32)
+    requires { Room 31 text.old }
+    ensures { Added text.old (signs_text 0 (signs_of bus address w)) 31 text.new }
 {
     let read = is_read(w);
     let applied = bus.applied(w);
     let opening = applied.opening;
-    let a = push_opening(out, at, opening, address, read);
-    let b = push_data(out, a, read, w);
-    push_closing(out, b, has_stop(w))
+    push_opening(text, opening, address, read);
+    push_data(text, read, w);
+    push_closing(text, has_stop(w));
 }
 
 // Spaces up to a column.
-fn push_spaces(out: &mut [u8], at: usize, column: usize) -> usize
-    requires { (at ≤ length out.old)
-        × (column ≤ length out.old) }
-    ensures { Appended out.old at (replicate (column - at) 32) column out.new
-        result }
+fn push_spaces(text: &mut Text, column: usize)
+    requires within { text.old.at ≤ length text.old.out.now }
+    requires room { column ≤ length text.old.out.now }
+    ensures { Added text.old (replicate (column - text.old.at) 32) (column - text.old.at) text.new }
 {
-    let mut end = at;
-    let mut i = at;
-    while i < column {
-        end = push(out, end, b' ');
-        i += 1;
+    for _ in text.at..column {
+        text.push(b' ');
     }
-    end
 }
 
-// Two spaces and `bus:`.
-fn push_head(out: &mut [u8], at: usize) -> usize
-    requires { at + 6 ≤ length out.old }
-    ensures { Appended out.old at bus_head 6 out.new result }
+fn push_word(text: &mut Text, bus: Bus, address: u32, w: u32)
+    requires { Room 16900 text.old }
+    ensures { Added text.old (word_line bus address w) 16900 text.new }
 {
-    let a = push(out, at, b' ');
-    let b = push(out, a, b' ');
-    let c = push(out, b, b'b');
-    let d = push(out, c, b'u');
-    let e = push(out, d, b's');
-    push(out, e, b':')
+    let start = text.at;
+    push_words(text, 1, u32::from(regs::DATA_CMD), w);
+    push_spaces(text, start + 52);
+    text.push_text(b"  bus:");
+    push_piece(text, bus, address, w);
+    text.push(b'\n');
 }
 
-fn push_word(out: &mut [u8], bus: Bus, address: u32, w: u32) -> usize
+fn word_line(bus: Bus, address: u32, w: u32, out: &mut [u8]) -> usize
     requires { 16900 ≤ length out.old }
     ensures { Appended out.old 0 (word_line bus address w) 16900 out.new result }
 {
-    let a = push_words(out, 1, regs::DATA_CMD as u32, w);
-    let b = push_spaces(out, a, 52);
-    let c = push_head(out, b);
-    let d = push_piece(out, c, bus, address, w);
-    push(out, d, b'\n')
+    let mut text = Text::new(out, 0);
+    push_word(&mut text, bus, address, w);
+    text.at
 }
 
 // A line of an open transfer.
@@ -154,7 +128,7 @@ fn explain_after(bus: Bus, address: u32, line: &[u8], out: &mut [u8]) -> usize
             if out.len() < explain_frames::ROOM {
                 return 0;
             }
-            push_word(out, bus, address, w)
+            word_line(bus, address, w, out)
         }
     }
 }

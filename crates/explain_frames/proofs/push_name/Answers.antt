@@ -4,4 +4,4 @@ use Rattle.explain_frames.proofs.push_name.Goals as goal
 
 pub returns : goal.returns
 unfolding names
-returns c = rw (← c.name_row-row.ensures.0) c.push_cell.ensures
+returns c = rw (← c.name_row-row.ensures.row) c.push_cell.ensures

@@ -1,6 +1,6 @@
 -- `explain_after`: `written` gives the value that the line writes to DATA_CMD and so the case of `told_of`:
 -- none is `explain`'s contract; with a word the test `out.len() < ROOM` decides between no text (`nothing`)
--- and `push_word`'s contract.
+-- and `word_line`'s contract.
 use borrow.Author.Tests.{lt-ltb, le-ltb}
 use Rattle.text_hex.proofs.Appends.{nothing, within}
 use Rattle.explain_beside.specs.Piece.{told_of}
@@ -17,4 +17,4 @@ returns-in-None c = rw (← c.written.ensures, c.in-None.is) c.explain.ensures
 pub returns-else-out-lt-ROOM : goal.returns-else-out-lt-ROOM
 unfolding told_of
 returns-else-out-lt-ROOM c = rw (← c.written.ensures, c.in-Some.is, le-ltb _ _ c.if-out-lt-ROOM.false)
-    (within _ c.if-out-lt-ROOM.false c.push_word.ensures)
+    (within _ c.if-out-lt-ROOM.false c.word_line.ensures)

@@ -1,5 +1,5 @@
--- `explain_beside::beside::push_addressed` meets its contract.
-use Rattle.text_hex.proofs.Appends.{then}
+-- `push_addressed`: the name, and the address byte by its digits and its letter (`address_is`).
+use Rattle.text_hex.proofs.Adding.{both}
 use Rattle.explain_beside.specs.Inner.Parts.{addressed_text}
 use Rattle.explain_beside.proofs.Texts.{address_is}
 use Rattle.explain_beside.proofs.beside.push_addressed.Goals as goal
@@ -7,5 +7,5 @@ use Rattle.explain_beside.proofs.beside.push_addressed.Goals as goal
 pub returns : goal.returns
 unfolding addressed_text
 returns c = rw (address_is, ← c.letter.ensures)
-    (then c.push_name-a.ensures
-    (then c.push-b.ensures (then c.push2-c.ensures c.push.ensures)))
+    (both c.push_name.ensures
+    (both c.push.ensures (both c.push_hex2.ensures c.push-2.ensures)))

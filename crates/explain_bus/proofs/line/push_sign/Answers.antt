@@ -1,8 +1,8 @@
--- `explain_bus::line::push_sign` meets its contract.
-use Rattle.text_hex.proofs.Appends.{then}
+-- `push_sign`: the run and then the sign.
+use Rattle.text_hex.proofs.Adding.{both}
 use Rattle.explain_bus.specs.Inner.Words.{word_text}
 use Rattle.explain_bus.proofs.line.push_sign.Goals as goal
 
 pub returns : goal.returns
 unfolding word_text
-returns c = then c.push_run-end.ensures c.push_kind.ensures
+returns c = both c.push_run.ensures c.push_kind.ensures

@@ -1,9 +1,8 @@
 -- `push_abort`: the literal table is `aborts_flags` by unfolding.
 use mathlib.Core.Path.{refl}
 use Rattle.explain_frames.specs.Tables.{aborts_flags}
-use borrow.Author.Rules.{rules}
 use Rattle.explain_frames.proofs.aborts.push_abort.Goals as goal
 
-pub push_named-requires : goal.push_named-requires
+pub push_named-requires-clause-names : goal.push_named-requires-clause-names
 unfolding aborts_flags
-push_named-requires c = (search rules, search rules, refl)
+push_named-requires-clause-names c = refl
