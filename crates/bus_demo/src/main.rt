@@ -30,22 +30,20 @@ fn say_direction(rt: HostRuntime, address: u32) {
 // One entry of a sequence: an address with w or r for its direction, a written byte, or -- for a read slot.
 fn say_sign(rt: HostRuntime, word: u32) {
     let value = word % 0x10000;
-    let kind = word - value;
-    if kind == bus::START {
-        say(rt, b" START");
-    } else if kind == bus::RESTART {
-        say(rt, b" RESTART");
-    } else if kind == bus::STOP {
-        say(rt, b" STOP");
-    } else if kind == bus::READ_SLOT {
-        say(rt, b" --");
-    } else if kind == bus::ADDRESS {
-        say(rt, b" ");
-        say_hex(rt, value / 2);
-        say_direction(rt, value);
-    } else {
-        say(rt, b" ");
-        say_hex(rt, value);
+    match word - value {
+        bus::START => say(rt, b" START"),
+        bus::RESTART => say(rt, b" RESTART"),
+        bus::STOP => say(rt, b" STOP"),
+        bus::READ_SLOT => say(rt, b" --"),
+        bus::ADDRESS => {
+            say(rt, b" ");
+            say_hex(rt, value / 2);
+            say_direction(rt, value);
+        }
+        _ => {
+            say(rt, b" ");
+            say_hex(rt, value);
+        }
     }
 }
 

@@ -1,4 +1,6 @@
 // The number and detail of each answer (docs/MANUAL.md).
+// These stay functions, since From is no plainer here: `u8::from(reply)` and `u32::from(reply)` would
+// say less than `number_of` and `detail_of` do, and could stand in `regs` alone, whose types these are.
 #![tactic(auto)]
 
 ghost use Rattle.std.specs.Prelude.{◌≡◌};
@@ -13,8 +15,7 @@ fn number_of_abort(r: AbortReason) -> u8
     match r {
         AbortReason::NoAcknowledge => 9,
         AbortReason::ArbitrationLoss => 10,
-        AbortReason::TxNotEmpty(_) => 11,
-        AbortReason::Other(_) => 11,
+        AbortReason::TxNotEmpty(_) | AbortReason::Other(_) => 11,
         AbortReason::DataNotAcknowledged(_) => 23,
     }
 }
@@ -47,9 +48,7 @@ fn number_of_answer(a: Answer) -> u8
     ensures { result ≡ answer_number a }
 {
     match a {
-        Answer::Accepted => 0,
-        Answer::Heard(_) => 0,
-        Answer::Responded(_) => 0,
+        Answer::Accepted | Answer::Heard(_) | Answer::Responded(_) => 0,
         Answer::Refused(r) => number_of_refusal(r),
     }
 }
@@ -69,10 +68,10 @@ fn detail_of_command(c: Command) -> u32
     ensures { result ≡ command_detail c }
 {
     match c {
-        Command::GeneralCall(n) => 0x10000 + n as u32,
+        Command::GeneralCall(n) => 0x10000 + u32::from(n),
         Command::Read => 0x20000,
-        Command::WriteRead(n) => 0x30000 + n as u32,
-        Command::Write(n) => 0x40000 + n as u32,
+        Command::WriteRead(n) => 0x30000 + u32::from(n),
+        Command::Write(n) => 0x40000 + u32::from(n),
     }
 }
 
@@ -82,7 +81,7 @@ fn detail_of_status(s: ReadStatus) -> u32
     match s {
         ReadStatus::Done => 0x10000,
         ReadStatus::NeedMoreBytes => 0x20000,
-        ReadStatus::LeftoverBytes(n) => 0x30000 + n as u32,
+        ReadStatus::LeftoverBytes(n) => 0x30000 + u32::from(n),
     }
 }
 
@@ -90,9 +89,8 @@ fn detail_of_abort(r: AbortReason) -> u32
     ensures { result ≡ abort_detail r }
 {
     match r {
-        AbortReason::NoAcknowledge => 0,
-        AbortReason::ArbitrationLoss => 0,
-        AbortReason::TxNotEmpty(n) => n as u32,
+        AbortReason::NoAcknowledge | AbortReason::ArbitrationLoss => 0,
+        AbortReason::TxNotEmpty(n) => u32::from(n),
         AbortReason::Other(w) => w,
         AbortReason::DataNotAcknowledged(w) => w,
     }
@@ -102,23 +100,11 @@ fn detail_of_refusal(r: Refusal) -> u32
     ensures { result ≡ refusal_detail r }
 {
     match r {
-        Refusal::FrequencyTooHigh => 0,
-        Refusal::FrequencyZero => 0,
-        Refusal::ClockOutOfRange => 0,
-        Refusal::ClockTooFast => 0,
-        Refusal::ClockTooSlow => 0,
-        Refusal::AddressOutOfRange(a) => a as u32,
-        Refusal::InvalidReadBufferLength => 0,
-        Refusal::InvalidWriteBufferLength => 0,
+        Refusal::AddressOutOfRange(a) => u32::from(a),
         Refusal::Abort(why) => detail_of_abort(why),
-        Refusal::TxLevelOutOfRange(level) => level as u32,
-        Refusal::InvalidResponseBufferLength => 0,
-        Refusal::PartialWrite(n) => n as u32,
-        Refusal::PartialGeneralCall(n) => n as u32,
-        Refusal::SlaveAddressZero => 0,
-        Refusal::NoPlaceForPending => 0,
-        Refusal::OverLimits => 0,
-        Refusal::WrongPacketErrorCode => 0,
+        Refusal::TxLevelOutOfRange(level) => u32::from(level),
+        Refusal::PartialWrite(n) | Refusal::PartialGeneralCall(n) => u32::from(n),
+        _ => 0,
     }
 }
 
@@ -139,7 +125,6 @@ pub fn detail_of(r: Reply) -> u32
 {
     match r {
         Reply::Answered(a) => detail_of_answer(a),
-        Reply::OutOfReadings => 0,
-        Reply::LogFull => 0,
+        Reply::OutOfReadings | Reply::LogFull => 0,
     }
 }
