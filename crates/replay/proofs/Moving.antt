@@ -23,7 +23,7 @@ use Rattle.replay_state.specs.Inner.Fed.{FedAs, start_state}
 use Rattle.replay_scan.specs.declared.Fed.{Fed}
 use Rattle.replay.specs.declared.input.Span.{Span}
 use Rattle.replay.specs.declared.input.Read.{Read}
-use Rattle.replay.specs.Replayed.{UnfedBy, Unfed, FedFrom, MOST_TURNS, Stops, ReadAll}
+use Rattle.replay.specs.Replayed.{UnfedBy, Unfed, FedFrom, Stops, ReadAll}
 
 pub record Moving (chunk : List ℕ) (at filled : ℕ) (w : Whole) (out : List ℕ) (turns : ℕ) : Type 0 where
   pub count : ℕ
@@ -37,7 +37,7 @@ pub record Moving (chunk : List ℕ) (at filled : ℕ) (w : Whole) (out : List �
   pub room : MOST_TEXT + 13 ≤ length out
   pub order : at ≤ filled
   pub inside : filled ≤ length chunk
-  pub most : MOST_TURNS ≤ turns + length fed
+  pub most : turns ≤ length fed
 
 pub starts : {chunk text kinds lengths bytes readings buffer log out : List ℕ}
     → length text ≡ longest_kept
@@ -45,7 +45,7 @@ pub starts : {chunk text kinds lengths bytes readings buffer log out : List ℕ}
     → length buffer ≡ 4096
     → length log ≡ LOG_WORDS
     → MOST_TEXT + 13 ≤ length out
-    → Moving chunk 0 0 (whole start_state text kinds lengths bytes readings buffer log) out MOST_TURNS
+    → Moving chunk 0 0 (whole start_state text kinds lengths bytes readings buffer log) out 0
 starts a b c d e =
     record {
       count = 0;
@@ -164,9 +164,9 @@ module _ {chunk : List ℕ} {at filled : ℕ} {w : Whole} {out : List ℕ} {turn
 
   -- ---- bytes fed
 
-  pub feed_on : {w' : Whole} {out' : List ℕ} {f : Fed} → FedFrom w chunk at filled w' out' f → length out' ≡ length out → 0 < turns
-      → Moving chunk f.used filled w' out' (turns - 1)
-  feed_on {w'} {out'} {f} x z h =
+  pub feed_on : {w' : Whole} {out' : List ℕ} {f : Fed} → FedFrom w chunk at filled w' out' f → length out' ≡ length out
+      → Moving chunk f.used filled w' out' (turns + 1)
+  feed_on {w'} {out'} {f} x z =
       let n = f.used - at in
       let a = slice at filled chunk in
       let m : n ≤ length a = rw (length-slice at filled chunk p.inside) (omega (arith, x.inside)) in

@@ -39,12 +39,10 @@ fn unfed(rt: HostRuntime, chunk: &mut [u8], at: usize, filled: usize) -> Span
         };
     }
     let got = read_some(rt, chunk);
-    let count = got.count;
-    let end = got.end;
     Span {
         at: 0,
-        filled: count,
-        end,
+        filled: got.count,
+        end: got.end,
     }
 }
 
@@ -88,16 +86,15 @@ fn feed_from(
         log,
         out,
     );
-    let state = f.state;
     Fed {
-        state,
+        state: f.state,
         used: at + f.used,
         made: f.made,
     }
 }
 
 // Reads to the end of the input, and writes answers on the way; a read or a write that fails ends it
-// too. A proved loop ends, so it counts its turns down from a number that no run uses up.
+// too. A proved loop ends, so it takes a number of turns that no run uses up.
 pub fn read_all(
     rt: HostRuntime,
     chunk: &mut [u8],
@@ -122,16 +119,14 @@ pub fn read_all(
     let mut state = start();
     let mut at: usize = 0;
     let mut filled: usize = 0;
-    let mut turns = u64::MAX;
-    while turns > 0 {
+    for turn in 0..u64::MAX {
         let u = unfed(rt, chunk, at, filled);
         let from = u.at;
         filled = u.filled;
         if filled == 0 {
-            let end = u.end;
             return Read {
                 state,
-                end,
+                end: u.end,
                 written: true,
             };
         }
@@ -148,7 +143,6 @@ pub fn read_all(
                 written: false,
             };
         }
-        turns -= 1;
     }
     Read {
         state,

@@ -1,4 +1,4 @@
--- The search for a read among the kinds of the operations, and a listen buffer over the limit.
+-- A listen buffer over the limit.
 use Prim.Native.Nat.{ℕ, ◌+◌, ◌<◌, ◌≤◌}
 use native.Mathlib.Omega.{arith}
 use native.Mathlib.Numerals.{add-one}
@@ -17,27 +17,6 @@ use Rattle.text_hex.proofs.Appends.{within}
 use Rattle.replay_calls.specs.Calls.{lists_read, replayed}
 use Rattle.replay_calls.specs.Inner.Runs.{MOST_TEXT, Runs, listened}
 use Rattle.replay_calls.specs.declared.Done.{Done}
-
--- none of the first i kinds is a read
-pub record Searching (kinds : List ℕ) (i : ℕ) : Type 0 where
-  pub same : lists_read (drop i kinds) ≡ lists_read kinds
-  pub within : i ≤ length kinds
-
-pub search_none : (kinds : List ℕ) → Searching kinds 0
-search_none kinds = record { same = refl; within = omega arith }
-
-module _ {kinds : List ℕ} {i : ℕ} (p : Searching kinds i) where
-  pub search_found : i < length kinds → get_or kinds i 0 ≡ 0 → lists_read kinds ≡ true
-  search_found h e = sym p.same ∙ rw (drop-cons kinds i 0 h, eq-eqb (get_or kinds i 0) 0 e)
-
-  pub search_more : i < length kinds → (get_or kinds i 0 ≡ 0 → ⊥) → Searching kinds (i + 1)
-  search_more h e =
-      let c : lists_read (drop i kinds) ≡ lists_read (drop (i + 1) kinds) =
-      rw (add-one, drop-cons kinds i 0 h, ne_eqb (get_or kinds i 0) 0 e) in
-      record { same = sym c ∙ p.same; within = omega arith }
-
-  pub search_all : length kinds ≤ i → lists_read kinds ≡ false
-  search_all h = sym p.same ∙ rw (drop_of_length-le kinds h)
 
 -- number 20 is the answer to a listen of more than 4,096 bytes, whatever is read
 pub listen_over : (n : ℕ) (readings : List ℕ) (s : SlaveState) → 4096 < n → (before after : List ℕ) (at : ℕ) (r : Done) → r.slave ≡ s

@@ -1,5 +1,4 @@
 -- What the proofs of the functions cite.
-pub mod Clears
 pub mod Finds
 pub mod Prints
 pub mod Legal

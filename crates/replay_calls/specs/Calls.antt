@@ -1,5 +1,5 @@
 -- A call of the replay: what it leaves, by its driver's definition, and what is printed of it.
-use Rattle.std.specs.Prelude.{ℕ, ◌+◌, ◌%◌, Bool, true, false, not, ◌&&◌, ◌||◌, List, [], ◌∷◌, ◌++◌, eqb, ltb, length, replicate, if◌then◌else◌}
+use Rattle.std.specs.Prelude.{ℕ, ◌+◌, Bool, true, false, not, ◌&&◌, ◌||◌, List, [], ◌∷◌, ◌++◌, eqb, ltb, length, replicate, if◌then◌else◌}
 use Rattle.regs.specs.Program.{Program, Outcome, outcome, behaviour}
 use Rattle.regs.specs.Answers.{number}
 use Rattle.regs.specs.declared.answers.Answer.{Answer}
@@ -7,7 +7,7 @@ use Rattle.regs.specs.declared.answers.Reply.{Reply}
 use Rattle.regs.specs.declared.answers.Reply.TheVariants.{Answered, LogFull, OutOfReadings}
 use Rattle.clock_setting.specs.SetConfig.{set_config}
 use Rattle.master.specs.Driver.{Driver, reason_of}
-use Rattle.master.specs.Operations.{Operation, writes, reads, Mode, blocking, async, READ, WRITE, fits, lists}
+use Rattle.master.specs.Operations.{Operation, writes, reads, blocking, async, READ, WRITE, fits, lists}
 use Rattle.master.specs.Operations.{Transfer, read, write, write_read, transaction}
 use Rattle.master.specs.Operations as Master
 use Rattle.master.specs.Transfer.{transfer, within}
@@ -15,6 +15,11 @@ use Rattle.master.specs.Coded.{coded}
 use Rattle.slave.specs.I2cSlave.{reset_call, listen_call, respond_to_read_call, respond_till_stop_call, respond_and_fill_call}
 use Rattle.slave.specs.declared.SlaveState.{SlaveState}
 use Rattle.text_hex.specs.Print.{log_text, buffer_text, reply_text}
+use Rattle.replay_calls.specs.declared.form.Kind.{Kind}
+use Rattle.replay_calls.specs.declared.form.Kind.TheVariants.{Read, Write, WriteRead, Transaction}
+use Rattle.replay_calls.specs.declared.form.Mode.{Mode}
+use Rattle.replay_calls.specs.declared.form.Mode.TheVariants.{Blocking, Async}
+use Rattle.replay_calls.specs.declared.form.Form.{Form}
 use Rattle.replay_calls.specs.declared.Call.{Call}
 use Rattle.replay_calls.specs.declared.Call.TheVariants.{Clock, Master, Reset, Listen, Respond, Fill, RespondAndFill}
 
@@ -47,28 +52,37 @@ listing (writes bs ∷ os) =
     listed (WRITE ∷ rest.kinds) (length bs ∷ rest.lengths) (bs ++ rest.bytes) rest.room
 listing (reads n ∷ os) = let rest = listing os in listed (READ ∷ rest.kinds) (n ∷ rest.lengths) rest.bytes (n + rest.room)
 
--- bit 2 of a form: async
-abbrev pub mode_of : ℕ → Mode
-mode_of form = if ltb (form % 8) 4 then blocking else async
+abbrev pub mode_of : Mode → Master.Mode
+mode_of Blocking = blocking
+mode_of Async = async
 
--- a form from 8 on has a packet error code. Number 20 is before all, by the data alone
-abbrev pub within_form : ℕ → ℕ → Bool → Transfer ℕ → Driver Answer
+-- with a packet error code, or without. Number 20 is before all, by the data alone
+abbrev pub within_form : Form → ℕ → Bool → Transfer ℕ → Driver Answer
 within_form form address limits t =
-    within limits (if ltb form 8 then transfer reason_of (mode_of form) address t else coded reason_of (mode_of form) address t)
+    within limits (if form.coded then coded reason_of (mode_of form.mode) address t else
+    transfer reason_of (mode_of form.mode) address t)
 
--- bits 0 and 1 of a form: read, write, write-read, transaction
-abbrev pub transfer_of : ℕ → ℕ → Listed → Driver Answer
-transfer_of form address l =
-    if eqb (form % 4) 0 then within_form form address (fits l.room) (read l.room)
-    else (if eqb (form % 4) 1 then within_form form address (fits (length l.bytes)) (write l.bytes)
-    else (if eqb (form % 4) 2 then
+abbrev pub transfer_by : Kind → Form → ℕ → Listed → Driver Answer
+transfer_by Read form address l = within_form form address (fits l.room) (read l.room)
+transfer_by Write form address l = within_form form address (fits (length l.bytes)) (write l.bytes)
+transfer_by WriteRead form address l =
     within_form form address (fits (length l.bytes) && fits l.room) (write_read l.bytes l.room)
-    else within_form form address (lists l.kinds l.lengths (length l.bytes) l.room)
-    (transaction (Master.listed l.kinds l.lengths l.bytes))))
+transfer_by Transaction form address l =
+    within_form form address (lists l.kinds l.lengths (length l.bytes) l.room)
+    (transaction (Master.listed l.kinds l.lengths l.bytes))
+
+abbrev pub transfer_of : Form → ℕ → Listed → Driver Answer
+transfer_of form address l = transfer_by form.kind form address l
 
 -- the read buffer starts with zeros; a write has none
-abbrev pub buffer_of : ℕ → Listed → List ℕ
-buffer_of form l = if eqb (form % 4) 1 then [] else replicate l.room 0
+abbrev pub buffer_by : Kind → Listed → List ℕ
+buffer_by Read l = replicate l.room 0
+buffer_by Write l = []
+buffer_by WriteRead l = replicate l.room 0
+buffer_by Transaction l = replicate l.room 0
+
+abbrev pub buffer_of : Form → Listed → List ℕ
+buffer_of form l = buffer_by form.kind l
 
 -- the slave's state is kept by the calls of clock and master
 abbrev pub keeping : SlaveState → Outcome (Unit {0}) Reply → Outcome SlaveState Reply

@@ -1,3 +1,4 @@
 -- What a call of the replay leaves and prints.
+pub mod Form
 pub mod Calls
 pub mod Inner

@@ -1,8 +1,10 @@
 // Calls of the replay: what a call is, and what a run left, printed.
 #![tactic(auto)]
 
+pub mod form; // which of the master's calls
 pub mod outcome; // what a run left, printed
 
+use form::Form;
 use slave::SlaveState;
 
 // A call as its call frame gives it. The operations of a
@@ -10,7 +12,7 @@ use slave::SlaveState;
 #[derive(Clone, Copy)]
 pub enum Call {
     Clock(u32, u32),
-    Master(u8, u16),
+    Master(Form, u16),
     Reset(u16, bool),
     Listen(u16),
     Respond,

@@ -13,11 +13,7 @@ use text_hex::print;
 pub fn clear(buffer: &mut [u8])
     ensures { buffer.new ≡ replicate (length buffer.old) 0 }
 {
-    let mut i: usize = 0;
-    while i < buffer.len() {
-        buffer[i] = 0;
-        i += 1;
-    }
+    buffer.fill(0);
 }
 
 // The buffer, where there is one and the call was not refused with 20.
@@ -28,10 +24,7 @@ fn push_shown(out: &mut [u8], at: usize, buffered: bool, number: u8, buffer: &[u
         (3 + 2 * length buffer.now)
         out.new result }
 {
-    if buffered {
-        if number == 20 {
-            return at;
-        }
+    if buffered && number != 20 {
         return print::push_buffer(out, at, buffer);
     }
     at

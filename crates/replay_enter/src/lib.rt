@@ -5,15 +5,15 @@ ghost use Rattle.std.specs.Prelude.{length, ◌≤◌};
 ghost use Rattle.replay_frames.specs.Frame.{run, frame_of};
 ghost use Rattle.replay_frames.specs.Inner.Short.{as_frame};
 ghost use Rattle.replay_session.specs.Inner.Bounded.{next_held};
-ghost use Rattle.replay_session.specs.Inner.Enter.{arrays, session_of, Small, Lent, Workspace, EnteredAs};
+ghost use Rattle.replay_session.specs.Inner.Enter.{arrays, session_of, Within, Small, Lent, Workspace, EnteredAs};
 ghost use Rattle.replay_session.specs.Inner.Enter.{CalledAs};
 ghost use Rattle.replay_session.specs.Inner.Enter.{longest_kept};
 
 use replay_calls::Done;
-use replay_frames::{Head, Short, head_of, plain, width};
+use replay_frames::{Short, head_of, plain, width};
 use replay_session::bytes::enter_pairs;
-use replay_session::enter::{closed, enter_call, enter_read, enter_reading};
-use replay_session::{Entered, Open, is_complete};
+use replay_session::enter::{enter_call, enter_read, enter_reading};
+use replay_session::{Entered, Malformed, Open};
 use slave::SlaveState;
 use text_hex::print;
 
@@ -30,7 +30,7 @@ fn run_call(
     out: &mut [u8],
     at: usize,
 ) -> Done
-    requires { Small o
+    requires { Within o.counts
         × Lent (arrays kinds.now lengths.now bytes.now readings.now)
         × Workspace buffer.old log.old out.old at }
     ensures { CalledAs o s
@@ -42,17 +42,13 @@ fn run_call(
         let end = print::push_answer(out, at, 20, 0);
         return Done { slave: s, end };
     }
-    let ops = n.ops;
-    let written = n.bytes;
-    let read = n.readings;
-    let call = o.call;
     replay_run::run(
-        call,
-        &kinds[..ops],
-        &lengths[..ops],
-        &bytes[..written],
+        o.call,
+        &kinds[..n.ops],
+        &lengths[..n.ops],
+        &bytes[..n.bytes],
         n.reads,
-        &readings[..read],
+        &readings[..n.readings],
         s,
         buffer,
         log,
@@ -62,7 +58,7 @@ fn run_call(
 }
 
 fn enter_run(
-    o: Open,
+    call: Option<Open>,
     s: SlaveState,
     kinds: &[u8],
     lengths: &[u16],
@@ -72,32 +68,33 @@ fn enter_run(
     log: &mut [u32],
     out: &mut [u8],
     at: usize,
-) -> Entered
-    requires { Small o
+) -> Result<Entered, Malformed>
+    requires { Small call
         × Lent (arrays kinds.now lengths.now bytes.now readings.now)
         × Workspace buffer.old log.old out.old at }
     ensures { EnteredAs result
         (arrays kinds.now lengths.now bytes.now readings.now)
         out.old at out.new
-        (next_held (session_of o s
+        (next_held (session_of call s
         (arrays kinds.now lengths.now bytes.now readings.now))
         run) }
 {
-    if o.busy {
-        let wants = o.wants;
-        if is_complete(wants) {
-            let d = run_call(o, s, kinds, lengths, bytes, readings, buffer, log, out, at);
-            let slave = d.slave;
-            return Entered::Going(closed(), slave, d.end);
-        }
+    let o = call.ok_or(Malformed)?;
+    if o.wants.is_complete() {
+        let d = run_call(o, s, kinds, lengths, bytes, readings, buffer, log, out, at);
+        return Ok(Entered {
+            call: None,
+            slave: d.slave,
+            end: d.end,
+        });
     }
-    Entered::Malformed
+    Err(Malformed)
 }
 
 // A frame of a fixed length.
 fn enter(
     f: Short,
-    o: Open,
+    call: Option<Open>,
     s: SlaveState,
     kinds: &mut [u8],
     lengths: &mut [u16],
@@ -107,30 +104,31 @@ fn enter(
     log: &mut [u32],
     out: &mut [u8],
     at: usize,
-) -> Entered
-    requires { Small o
+) -> Result<Entered, Malformed>
+    requires { Small call
         × Lent (arrays kinds.old lengths.old bytes.now readings.old)
         × Workspace buffer.old log.old out.old at }
     ensures { EnteredAs result
         (arrays kinds.new lengths.new bytes.now readings.new)
         out.old at out.new
-        (next_held (session_of o s
+        (next_held (session_of call s
         (arrays kinds.old lengths.old bytes.now readings.old))
-        (as_frame f)) }
+        (as_frame (Some f))) }
 {
     match f {
-        Short::Opens(c) => enter_call(c, o, s, at),
-        Short::Read(m) => enter_read(m, o, s, kinds, lengths, at),
-        Short::Reading(w) => enter_reading(w, o, s, readings, at),
-        Short::Run => enter_run(o, s, kinds, lengths, bytes, readings, buffer, log, out, at),
-        Short::Bad => Entered::Malformed,
+        Short::Opens(c) => enter_call(c, call, s, at),
+        Short::Read(m) => enter_read(m, call, s, kinds, lengths, at),
+        Short::Reading(w) => enter_reading(w, call, s, readings, at),
+        Short::Run => enter_run(
+            call, s, kinds, lengths, bytes, readings, buffer, log, out, at,
+        ),
     }
 }
 
 // A line of the input, without its LF.
 pub fn enter_line(
     line: &[u8],
-    o: Open,
+    call: Option<Open>,
     s: SlaveState,
     kinds: &mut [u8],
     lengths: &mut [u16],
@@ -140,28 +138,28 @@ pub fn enter_line(
     log: &mut [u32],
     out: &mut [u8],
     at: usize,
-) -> Entered
-    requires { Small o
+) -> Result<Entered, Malformed>
+    requires { Small call
         × Lent (arrays kinds.old lengths.old bytes.old readings.old)
         × Workspace buffer.old log.old out.old at
         × (length line.now ≤ longest_kept) }
     ensures { EnteredAs result
         (arrays kinds.new lengths.new bytes.new readings.new)
         out.old at out.new
-        (next_held (session_of o s
+        (next_held (session_of call s
         (arrays kinds.old lengths.old bytes.old readings.old))
         (frame_of line.now)) }
 {
     match head_of(line) {
-        Head::Plain => {
-            let f = plain(line);
-            enter(
-                f, o, s, kinds, lengths, bytes, readings, buffer, log, out, at,
-            )
-        }
-        Head::Bytes(l) => {
+        Some(l) => {
             let w = width(l);
-            enter_pairs(l, &line[w..], o, s, kinds, lengths, bytes, at)
+            enter_pairs(l, &line[w..], call, s, kinds, lengths, bytes, at)
+        }
+        None => {
+            let f = plain(line).ok_or(Malformed)?;
+            enter(
+                f, call, s, kinds, lengths, bytes, readings, buffer, log, out, at,
+            )
         }
     }
 }

@@ -43,9 +43,8 @@ fn step(
 {
     let r = run_readings(chunk, i, s, readings);
     if i < r.used {
-        let state = after_run(s, r);
         return Fed {
-            state,
+            state: after_run(s, r),
             used: r.used,
             made: at,
         };
@@ -127,8 +126,7 @@ pub fn finish(
         let t = line_feed(
             s, text, kinds, lengths, bytes, readings, buffer, log, out, 0,
         );
-        let last = t.state;
-        return end_input(last, out, t.made);
+        return end_input(t.state, out, t.made);
     }
     end_input(s, out, 0)
 }

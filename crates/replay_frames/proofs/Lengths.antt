@@ -13,7 +13,6 @@ use Rattle.text_hex.specs.Text.{digit_of, and_digit, number_at}
 use Rattle.replay_frames.specs.Frame.{Frame, bad, sized, slave_of, of_kind, plain_of, LONGEST, fill_head}
 use Rattle.replay_frames.specs.Frame.{slave_head, head_by, head_of, width}
 use Rattle.replay_frames.specs.declared.Line.{Line}
-use Rattle.replay_frames.specs.declared.Head.{Head}
 
 no_digit : (v : Option ℕ) → and_digit v 16 ≡ None
 no_digit None = refl
@@ -85,9 +84,9 @@ inside line at {v} e = go (ltb (length line) (at + 2)) refl
             told (Some x) = 1
     go false l = ltb-false _ _ l
 
-abbrev head_width : Head → ℕ
-head_width Head.Plain = 0
-head_width (Head.Bytes l) = width l
+abbrev head_width : Option Line → ℕ
+head_width None = 0
+head_width (Some l) = width l
 
 -- what stands before the bytes of a line is all there
 widths : (line : List ℕ) (kind form fill : Option ℕ)
@@ -100,14 +99,14 @@ widths line (Some k) form fill p q r = go form fill q r (eqb k 0x10) (eqb k 0x03
   where
     plain_or : (n : ℕ)
         → n ≤ length line
-        → (a : Bool) (l : Line) (h : Head)
+        → (a : Bool) (l : Line) (h : Option Line)
         → width l ≤ n
         → head_width h ≤ length line
-        → head_width (if a then Head.Bytes l else h) ≤ length line
+        → head_width (if a then Some l else h) ≤ length line
     plain_or n e true l h f g = omega arith
     plain_or n e false l h f g = g
 
-    filled : (v : Option ℕ) → number_at line 4 2 ≡ v → (a : Bool) → head_width (if a then fill_head v else Head.Plain) ≤ length line
+    filled : (v : Option ℕ) → number_at line 4 2 ≡ v → (a : Bool) → head_width (if a then fill_head v else None) ≤ length line
     filled None e true = omega arith
     filled (Some b) e true = inside line 4 e
     filled v e false = omega arith
@@ -116,13 +115,13 @@ widths line (Some k) form fill p q r = go form fill q r (eqb k 0x10) (eqb k 0x03
         → number_at line 2 2 ≡ u
         → number_at line 4 2 ≡ v
         → (a b : Bool)
-        → head_width (if a then Head.Bytes Line.Write else (if b then slave_head u v else Head.Plain)) ≤ length line
+        → head_width (if a then Some Line.Write else (if b then slave_head u v else None)) ≤ length line
     go u v e f true b = inside line 0 p
     go u v e f false false = omega arith
     go None v e f false true = omega arith
     go (Some x) v e f false true = plain_or 4 (inside line 2 e) (eqb x 2) Line.Respond _ (omega arith) (filled v f (eqb x 4))
 
-pub head_fits : (line : List ℕ) (l : Line) → head_of line ≡ Head.Bytes l → width l ≤ length line
+pub head_fits : (line : List ℕ) (l : Line) → head_of line ≡ Some l → width l ≤ length line
 head_fits line l e = rw e at (widths line (number_at line 0 2) (number_at line 2 2) (number_at line 4 2) refl refl refl)
 
 -- what stands behind the first w bytes

@@ -2,10 +2,11 @@
 use Rattle.std.specs.Prelude.{ℕ, true, false, List, [], ◌∷◌, eqb, ltb, length, drop, if◌then◌else◌, Option, Some, None}
 use Rattle.master.specs.Operations.{Operation, writes}
 use Rattle.text_hex.specs.Text.{number_at, bytes_of}
+use Rattle.replay_calls.specs.Form.{form_of}
+use Rattle.replay_calls.specs.declared.form.Form.{Form}
 use Rattle.replay_calls.specs.declared.Call.{Call}
 use Rattle.replay_calls.specs.declared.Call.TheVariants.{Clock, Master, Reset, Listen, Respond, Fill, RespondAndFill}
 use Rattle.replay_frames.specs.declared.Line.{Line}
-use Rattle.replay_frames.specs.declared.Head.{Head}
 
 pub data Frame : Type 0 where
   opens : Call → List (Operation ℕ) → Frame  -- `01`, `02`, `03`: a call. The bytes of a response are an operation of it
@@ -23,9 +24,13 @@ clock_of (Some f) None = bad
 clock_of None c = bad
 
 -- a form has four bits
+abbrev pub master_by : Option Form → ℕ → Frame
+master_by (Some form) address = opens (Master form address) []
+master_by None address = bad
+
 abbrev pub master_of : Option ℕ → Option ℕ → Frame
-master_of (Some form) (Some address) = if ltb form 16 then opens (Master form address) [] else bad
-master_of (Some form) None = bad
+master_of (Some bits) (Some address) = master_by (form_of bits) address
+master_of (Some bits) None = bad
 master_of None address = bad
 
 abbrev pub reset_of : Option ℕ → Option ℕ → Frame
@@ -80,19 +85,19 @@ LONGEST = 18
 
 -- ---- frames that end in any number of bytes: `10`, `0302`, and `0304` with its fill byte stand before them
 
-abbrev pub fill_head : Option ℕ → Head
-fill_head (Some b) = Head.Bytes (Line.RespondAndFill b)
-fill_head None = Head.Plain
+abbrev pub fill_head : Option ℕ → Option Line
+fill_head (Some b) = Some (Line.RespondAndFill b)
+fill_head None = None
 
-abbrev pub slave_head : Option ℕ → Option ℕ → Head
-slave_head (Some form) fill = if eqb form 2 then Head.Bytes Line.Respond else (if eqb form 4 then fill_head fill else Head.Plain)
-slave_head None fill = Head.Plain
+abbrev pub slave_head : Option ℕ → Option ℕ → Option Line
+slave_head (Some form) fill = if eqb form 2 then Some Line.Respond else (if eqb form 4 then fill_head fill else None)
+slave_head None fill = None
 
-abbrev pub head_by : Option ℕ → Option ℕ → Option ℕ → Head
-head_by (Some kind) form fill = if eqb kind 0x10 then Head.Bytes Line.Write else (if eqb kind 0x03 then slave_head form fill else Head.Plain)
-head_by None form fill = Head.Plain
+abbrev pub head_by : Option ℕ → Option ℕ → Option ℕ → Option Line
+head_by (Some kind) form fill = if eqb kind 0x10 then Some Line.Write else (if eqb kind 0x03 then slave_head form fill else None)
+head_by None form fill = None
 
-abbrev pub head_of : List ℕ → Head
+abbrev pub head_of : List ℕ → Option Line
 head_of line = head_by (number_at line 0 2) (number_at line 2 2) (number_at line 4 2)
 
 -- how many characters stand before the bytes
@@ -109,9 +114,9 @@ bytes_frame (Line.RespondAndFill b) (Some bs) = opens (RespondAndFill b) (writes
 
 -- ---- any line
 
-abbrev pub by_head : List ℕ → Head → Frame
-by_head line Head.Plain = plain_of line
-by_head line (Head.Bytes l) = bytes_frame l (bytes_of (drop (width l) line))
+abbrev pub by_head : List ℕ → Option Line → Frame
+by_head line None = plain_of line
+by_head line (Some l) = bytes_frame l (bytes_of (drop (width l) line))
 
 abbrev pub frame_of : List ℕ → Frame
 frame_of line = by_head line (head_of line)

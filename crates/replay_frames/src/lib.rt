@@ -9,6 +9,7 @@ ghost use Rattle.replay_frames.specs.Frame.{slave_head, head_of, width};
 ghost use Rattle.replay_frames.specs.Inner.Short.{as_frame};
 
 use replay_calls::Call;
+use replay_calls::form::Form;
 use text_hex::digits::number;
 
 // The frames that end in bytes.
@@ -19,141 +20,81 @@ pub enum Line {
     RespondAndFill(u8),
 }
 
-// What a line begins with: one of these, or anything else.
-#[derive(Clone, Copy)]
-pub enum Head {
-    Plain,
-    Bytes(Line),
-}
-
-// A frame of a fixed length, or that the line is none.
+// A frame of a fixed length.
 #[derive(Clone, Copy)]
 pub enum Short {
     Opens(Call),
     Read(u16),
     Reading(u32),
     Run,
-    Bad,
 }
 
-fn clock(frequency: Option<u32>, clk: Option<u32>) -> Short
+fn clock(frequency: Option<u32>, clk: Option<u32>) -> Option<Short>
     ensures { as_frame result ≡ clock_of frequency clk }
 {
-    match frequency {
-        Some(f) => match clk {
-            Some(c) => Short::Opens(Call::Clock(f, c)),
-            None => Short::Bad,
-        },
-        None => Short::Bad,
-    }
+    Some(Short::Opens(Call::Clock(frequency?, clk?)))
 }
 
-fn master(form: Option<u32>, address: Option<u32>) -> Short
+fn master(form: Option<u32>, address: Option<u32>) -> Option<Short>
     requires { Below 4 address }
     ensures { as_frame result ≡ master_of form address }
 {
-    match form {
-        Some(f) => match address {
-            Some(a) => {
-                if f < 16 {
-                    return Short::Opens(Call::Master(f as u8, a as u16));
-                }
-                Short::Bad
-            }
-            None => Short::Bad,
-        },
-        None => Short::Bad,
+    let bits = form?;
+    let address = address?;
+    match Form::try_from(bits) {
+        Ok(form) => Some(Short::Opens(Call::Master(form, address as u16))),
+        Err(_) => None,
     }
 }
 
-fn reset(address: Option<u32>, general: Option<u32>) -> Short
+fn reset(address: Option<u32>, general: Option<u32>) -> Option<Short>
     requires { Below 4 address }
     ensures { as_frame result ≡ reset_of address general }
 {
-    match address {
-        Some(a) => match general {
-            Some(g) => {
-                if g == 0 {
-                    return Short::Opens(Call::Reset(a as u16, false));
-                }
-                if g == 1 {
-                    return Short::Opens(Call::Reset(a as u16, true));
-                }
-                Short::Bad
-            }
-            None => Short::Bad,
-        },
-        None => Short::Bad,
+    let address = address? as u16;
+    match general? {
+        0 => Some(Short::Opens(Call::Reset(address, false))),
+        1 => Some(Short::Opens(Call::Reset(address, true))),
+        _ => None,
     }
 }
 
-fn listen(places: Option<u32>) -> Short
+fn listen(places: Option<u32>) -> Option<Short>
     requires { Below 4 places }
     ensures { as_frame result ≡ listen_of places }
 {
-    match places {
-        Some(n) => Short::Opens(Call::Listen(n as u16)),
-        None => Short::Bad,
-    }
+    Some(Short::Opens(Call::Listen(places? as u16)))
 }
 
-fn fill(byte: Option<u32>) -> Short
+fn fill(byte: Option<u32>) -> Option<Short>
     requires { Below 2 byte }
     ensures { as_frame result ≡ fill_of byte }
 {
-    match byte {
-        Some(b) => Short::Opens(Call::Fill(b as u8)),
-        None => Short::Bad,
-    }
+    Some(Short::Opens(Call::Fill(byte? as u8)))
 }
 
-fn read(places: Option<u32>) -> Short
+fn read(places: Option<u32>) -> Option<Short>
     requires { Below 4 places }
     ensures { as_frame result ≡ read_of places }
 {
-    match places {
-        Some(n) => Short::Read(n as u16),
-        None => Short::Bad,
-    }
+    Some(Short::Read(places? as u16))
 }
 
-fn reading(word: Option<u32>) -> Short
+fn reading(word: Option<u32>) -> Option<Short>
     ensures { as_frame result ≡ reading_of word }
 {
-    match word {
-        Some(w) => Short::Reading(w),
-        None => Short::Bad,
-    }
+    Some(Short::Reading(word?))
 }
 
 // The slave's call frames that have no bytes.
-fn slave(line: &[u8], form: Option<u32>) -> Short
+fn slave(line: &[u8], form: Option<u32>) -> Option<Short>
     ensures { as_frame result ≡ slave_of line.now form }
 {
-    let n = line.len();
-    match form {
-        Some(f) => {
-            if f == 0 {
-                if n == 10 {
-                    return reset(number(line, 4, 4), number(line, 8, 2));
-                }
-                return Short::Bad;
-            }
-            if f == 1 {
-                if n == 8 {
-                    return listen(number(line, 4, 4));
-                }
-                return Short::Bad;
-            }
-            if f == 3 {
-                if n == 6 {
-                    return fill(number(line, 4, 2));
-                }
-                return Short::Bad;
-            }
-            Short::Bad
-        }
-        None => Short::Bad,
+    match (form?, line.len()) {
+        (0, 10) => reset(number(line, 4, 4), number(line, 8, 2)),
+        (1, 8) => listen(number(line, 4, 4)),
+        (3, 6) => fill(number(line, 4, 2)),
+        _ => None,
     }
 }
 
@@ -162,108 +103,59 @@ fn byte_at(line: &[u8], at: usize) -> Option<u32>
     ensures { NumberAs line.now at 2 result }
 {
     let n = line.len();
-    if n < at {
-        return None;
-    }
-    if n - at < 2 {
+    if n < at || n - at < 2 {
         return None;
     }
     number(line, at, 2)
 }
 
-fn of_kind(line: &[u8], kind: u32) -> Short
+fn of_kind(line: &[u8], kind: u32) -> Option<Short>
     ensures { as_frame result ≡ of_kind line.now (Some kind) }
 {
-    let n = line.len();
-    if kind == 0x01 {
-        if n == 18 {
-            return clock(number(line, 2, 8), number(line, 10, 8));
-        }
-        return Short::Bad;
+    match (kind, line.len()) {
+        (0x01, 18) => clock(number(line, 2, 8), number(line, 10, 8)),
+        (0x02, 8) => master(number(line, 2, 2), number(line, 4, 4)),
+        (0x03, _) => slave(line, byte_at(line, 2)),
+        (0x11, 6) => read(number(line, 2, 4)),
+        (0x20, 10) => reading(number(line, 2, 8)),
+        (0xFF, 2) => Some(Short::Run),
+        _ => None,
     }
-    if kind == 0x02 {
-        if n == 8 {
-            return master(number(line, 2, 2), number(line, 4, 4));
-        }
-        return Short::Bad;
-    }
-    if kind == 0x03 {
-        return slave(line, byte_at(line, 2));
-    }
-    if kind == 0x11 {
-        if n == 6 {
-            return read(number(line, 2, 4));
-        }
-        return Short::Bad;
-    }
-    if kind == 0x20 {
-        if n == 10 {
-            return reading(number(line, 2, 8));
-        }
-        return Short::Bad;
-    }
-    if kind == 0xFF {
-        if n == 2 {
-            return Short::Run;
-        }
-        return Short::Bad;
-    }
-    Short::Bad
 }
 
 // The frame that a line is, without its LF, if it is one of a fixed length.
-pub fn plain(line: &[u8]) -> Short
+pub fn plain(line: &[u8]) -> Option<Short>
     ensures { as_frame result ≡ plain_of line.now }
 {
-    match byte_at(line, 0) {
-        Some(kind) => of_kind(line, kind),
-        None => Short::Bad,
-    }
+    of_kind(line, byte_at(line, 0)?)
 }
 
-fn fill_head(byte: Option<u32>) -> Head
+fn fill_head(byte: Option<u32>) -> Option<Line>
     requires { Below 2 byte }
     ensures { result ≡ fill_head byte }
 {
-    match byte {
-        Some(b) => Head::Bytes(Line::RespondAndFill(b as u8)),
-        None => Head::Plain,
-    }
+    Some(Line::RespondAndFill(byte? as u8))
 }
 
-fn slave_head(form: Option<u32>, fill: Option<u32>) -> Head
+fn slave_head(form: Option<u32>, fill: Option<u32>) -> Option<Line>
     requires { Below 2 fill }
     ensures { result ≡ slave_head form fill }
 {
-    match form {
-        Some(f) => {
-            if f == 2 {
-                return Head::Bytes(Line::Respond);
-            }
-            if f == 4 {
-                return fill_head(fill);
-            }
-            Head::Plain
-        }
-        None => Head::Plain,
+    match form? {
+        2 => Some(Line::Respond),
+        4 => fill_head(fill),
+        _ => None,
     }
 }
 
-// Whether a line, or what has come of it, begins a frame that ends in bytes.
-pub fn head_of(line: &[u8]) -> Head
+// What a line, or what has come of it, begins with, where that is a frame that ends in bytes.
+pub fn head_of(line: &[u8]) -> Option<Line>
     ensures { result ≡ head_of line.now }
 {
-    match byte_at(line, 0) {
-        Some(kind) => {
-            if kind == 0x10 {
-                return Head::Bytes(Line::Write);
-            }
-            if kind == 0x03 {
-                return slave_head(byte_at(line, 2), byte_at(line, 4));
-            }
-            Head::Plain
-        }
-        None => Head::Plain,
+    match byte_at(line, 0)? {
+        0x10 => Some(Line::Write),
+        0x03 => slave_head(byte_at(line, 2), byte_at(line, 4)),
+        _ => None,
     }
 }
 

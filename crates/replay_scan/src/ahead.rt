@@ -1,43 +1,31 @@
 // Whole lines of a chunk, which are read where they stand.
-ghost use Rattle.std.specs.Prelude.{◌≡◌, ◌<◌, ◌≤◌, length};
-ghost use Rattle.replay_state.specs.Inner.Rest.{Ahead};
+ghost use Rattle.std.specs.Prelude.{◌≤◌, length};
+ghost use Rattle.replay_state.specs.Inner.Rest.{AheadIf, FreshLine};
 
-use replay_state::Part;
+use replay_state::{LONGEST_KEPT, Part};
 
-// How many bytes from i on are a whole line before its LF; 8,199
-// where they are more than are kept or the chunk ends before.
-fn line_ahead(chunk: &[u8], i: usize) -> usize
+// How many bytes from i on are a whole line before its LF, unless
+// they are more than are kept or the chunk ends before.
+fn line_ahead(chunk: &[u8], i: usize) -> Option<usize>
     requires { i ≤ length chunk.now }
-    ensures { Ahead chunk.now i result }
+    ensures { AheadIf chunk.now i result }
 {
     let left = chunk.len() - i;
-    let mut n: usize = 0;
-    while n < 8199 {
-        if left <= n {
-            return 8199;
-        }
+    for n in 0..left.min(LONGEST_KEPT + 1) {
         if chunk[i + n] == 10 {
-            return n;
+            return Some(n);
         }
-        n += 1;
     }
-    8199
+    None
 }
 
-// The same at a place in the input where a line begins, and 8,199 elsewhere.
-pub fn fresh_line(p: Part, chunk: &[u8], i: usize) -> usize
+// The same at a place in the input where a line begins.
+pub fn fresh_line(p: Part, chunk: &[u8], i: usize) -> Option<usize>
     requires { i ≤ length chunk.now }
-    ensures { Ahead chunk.now i result
-        × (result < 8199 → p ≡ Part.Text 0) }
+    ensures { FreshLine p chunk.now i result }
 {
     match p {
-        Part::Stopped => 8199,
-        Part::Text(n) => {
-            if n == 0 {
-                return line_ahead(chunk, i);
-            }
-            8199
-        }
-        Part::Long(_) => 8199,
+        Part::Text(0) => line_ahead(chunk, i),
+        _ => None,
     }
 }

@@ -21,14 +21,12 @@ fn digits_ahead(chunk: &[u8], i: usize) -> usize
     ensures { DigitsAhead chunk.now i result }
 {
     let left = chunk.len() - i;
-    let mut k: usize = 0;
-    while k < left {
+    for k in 0..left {
         if !is_digit(chunk[i + k]) {
             return k;
         }
-        k += 1;
     }
-    k
+    left
 }
 
 // Keeps bytes from i on behind the n that are kept: up to the end
@@ -40,18 +38,14 @@ fn keep_ahead(chunk: &[u8], i: usize, n: usize, text: &mut [u8]) -> usize
     ensures { KeptAhead chunk.now i n text.old text.new result }
 {
     let left = chunk.len() - i;
-    let mut k: usize = 0;
-    while k < left {
-        if LONGEST_KEPT <= n + k {
-            return k;
-        }
+    let most = left.min(LONGEST_KEPT - n);
+    for k in 0..most {
         if chunk[i + k] == 10 {
             return k;
         }
         text[n + k] = chunk[i + k];
-        k += 1;
     }
-    k
+    most
 }
 
 // Reads from i on the bytes that go on with the line.

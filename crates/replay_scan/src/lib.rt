@@ -30,8 +30,7 @@ fn one(x: u8, s: State, text: &mut [u8], out: &mut [u8], at: usize) -> Turn
     ensures { WentInside s text.old out.old at (x ∷ []) result.state
         text.new out.new result.made [] }
 {
-    let p = s.part;
-    match p {
+    match s.part {
         Part::Stopped => Turn { state: s, made: at },
         Part::Text(n) => keep(x, n, s, text, out, at),
         Part::Long(odd) => skip(x, odd, s, out, at),
@@ -51,24 +50,18 @@ pub fn some(chunk: &[u8], i: usize, s: State, text: &mut [u8], out: &mut [u8], a
         × (i < result.used)
         × (result.used ≤ length chunk.now) }
 {
-    let used = i + 1;
-    let p = s.part;
-    let m = run(chunk, i, p, text);
+    let m = run(chunk, i, s.part, text);
     if i < m.used {
-        let part = m.part;
-        let g = go_on(s, part, at);
-        let state = g.state;
         return Fed {
-            state,
+            state: go_on(s, m.part, at).state,
             used: m.used,
             made: at,
         };
     }
     let t = one(chunk[i], s, text, out, at);
-    let state = t.state;
     Fed {
-        state,
-        used,
+        state: t.state,
+        used: i + 1,
         made: t.made,
     }
 }

@@ -12,7 +12,6 @@ use Rattle.std.specs.Prelude.{if◌then◌else◌, Option, Some, None}
 use Rattle.text_hex.specs.Text.{digit_of, and_digit, number_at}
 use Rattle.text_hex.proofs.Pairs.{lf_none}
 use Rattle.replay_frames.specs.Frame.{frame_of, reading, reading_of, sized, of_kind, head_of, by_head}
-use Rattle.replay_frames.specs.declared.Head.TheVariants.{Plain}
 use Rattle.replay_state.specs.Inner.Rest.{Ahead}
 use Rattle.replay_scan_readings.specs.Inner.Run.{WordAt, Written, ReadingAt}
 use Rattle.replay_scan_readings.proofs.Scans.{Scanned, scan_none, scan_more, scan_found}
@@ -72,7 +71,7 @@ module _ (chunk : List ℕ) (u w : ℕ) (p : Written chunk u w) where
   size : length line ≡ 10
   size = length-take-le 10 (drop u chunk) (rw length-drop (omega (arith, p.inside)))
 
-  headed : head_of line ≡ Plain
+  headed : head_of line ≡ None
   headed = rw kind
 
   word_read : sized line 10 (reading_of (number_at line 2 8)) ≡ reading w

@@ -10,13 +10,13 @@ use lib.ListN.{length, take, drop, set, length-set}
 use lib.Seq.{take-suc-set, length-take-le}
 use borrow.Author.Tests.{lt-ltb, le-ltb, eqb-true}
 use Rattle.regs.proofs.Tests.{both_of, false_true}
-use Rattle.std.specs.Prelude.{if◌then◌else◌}
+use Rattle.std.specs.Prelude.{if◌then◌else◌, Option, Some, None}
 use Rattle.slave.specs.declared.SlaveState.{SlaveState}
 use Rattle.replay_calls.specs.Calls.{MOST_READINGS}
 use Rattle.replay_calls.specs.declared.Call.{Call}
 use Rattle.replay_session.specs.Session.{complete, line_after, printed_from}
 use Rattle.replay_session.specs.Inner.Bounded.{Kept, Held, within}
-use Rattle.replay_session.specs.Inner.Enter.{Arrays, arrays, kept_of, session_of}
+use Rattle.replay_session.specs.Inner.Enter.{Arrays, arrays, kept_of, session_of, counts_of, Within}
 use Rattle.replay_session.specs.declared.Wants.{Wants}
 use Rattle.replay_session.specs.declared.Wants.TheVariants.{Nothing}
 use Rattle.replay_session.specs.declared.Open.{Open}
@@ -95,79 +95,71 @@ module _ {chunk : List ℕ} {i first number : ℕ} {rs₀ : List ℕ} {used coun
 
 -- what `is_ready` has found
 record Ready (s : State) : Type 0 where
+  open_call : Open
   part : s.part ≡ Text 0
-  busy : s.call.busy ≡ true
-  wants : complete s.call.wants ≡ true
+  call : s.call ≡ Some open_call
+  wants : complete open_call.wants ≡ true
 
 is_ready : (s : State) → ready_of s ≡ true → Ready s
-is_ready s e = go s.part refl e
+is_ready s e = go s.part s.call refl refl e
   where
-    go : (q : Part) → s.part ≡ q → ready_by q s.call ≡ true → Ready s
-    go Stopped f g = absurd (false_true g)
-    go (Text n) f g =
+    go : (q : Part) (c : Option Open) → s.part ≡ q → s.call ≡ c → ready_by q c ≡ true → Ready s
+    go Stopped c f h g = absurd (false_true g)
+    go (Text n) None f h g = absurd (false_true g)
+    go (Text n) (Some o) f h g =
         let a = both_of (eqb n 0) _ g in
-        let b = both_of s.call.busy _ a.1 in
-        record { part = f ∙ ap Text (eqb-true n 0 a.0); busy = b.0; wants = b.1 }
-    go (Long odd) f g = absurd (false_true g)
+        record { open_call = o; part = f ∙ ap Text (eqb-true n 0 a.0); call = h; wants = a.1 }
+    go (Long odd) c f h g = absurd (false_true g)
 
-open_session : (o : Open) (s : SlaveState) (a : Arrays)
-    → o.busy ≡ true
-    → session_of o s a ≡ within s o.call o.wants (kept_of o.counts a)
-    (take o.counts.readings a.readings)
-open_session o s a e = go o.busy e
-  where
-    go : (b : Bool) → b ≡ true
-        → (if b then within s o.call o.wants (kept_of o.counts a)
-        (take o.counts.readings a.readings) else Held.idle s)
-        ≡ within s o.call o.wants (kept_of o.counts a) (take o.counts.readings a.readings)
-    go true f = refl
-    go false f = absurd (false_true f)
+module _ (s : State) (chunk : List ℕ) (i : ℕ) (rs₀ rs : List ℕ) (r : Ran) (o : Open) (part : s.part ≡ Text 0)
+    (call : s.call ≡ Some o) (wants : complete o.wants ≡ true) where
+  ran_by : Run chunk i (counts_of s.call).readings s.line rs₀ r.used r.count r.line rs → RanAs s chunk i rs₀ rs r
+  ran_by p = record { some = went; inside = p.inside; none = λ l. p.none (omega (arith, p.onward)) }
+    where
+      first : (counts_of s.call).readings ≡ o.counts.readings
+      first = rw call
+
+      went : i < r.used → (t ks ls bs b l out : List ℕ) (at : ℕ) → Sound (whole s t ks ls bs rs₀ b l)
+          → Went (whole s t ks ls bs rs₀ b l) out at (drop i chunk) (whole (state_after s r) t ks ls bs rs b l) out at (drop r.used chunk)
+      went h t ks ls bs b l out at g =
+          record {
+            same = λ input. ap (λ (x : List ℕ). take at out ++ x) (still_printed input);
+            sound =
+                record {
+                  part = omega arith;
+                  small = rw call (record {
+                    counts = record {
+                      ops = counts.ops;
+                      bytes = counts.bytes;
+                      reads = counts.reads;
+                      readings = p.fits g.small.counts.readings;
+                    };
+                  });
+                  lent = record { kinds = g.lent.kinds; lengths = g.lent.lengths; bytes = g.lent.bytes; readings = p.size };
+                  text = g.text;
+                  buffer = g.buffer;
+                  log = g.log;
+                };
+          }
+        where
+          counts : Within o.counts
+          counts = rw call at g.small.counts
+
+          still_printed : (input : List ℕ)
+              → rest (whole s t ks ls bs rs₀ b l) (drop i chunk ++ input) ≡ rest
+              (whole (state_after s r) t ks ls bs rs b l) (drop r.used chunk ++ input)
+          still_printed input =
+              rw (part, call)
+              (rw first at (p.same s.slave o.call o.wants (kept_of o.counts (arrays ks ls bs rs₀)) wants input)
+              ∙ rw (lt-ltb i r.used h))
 
 pub ran : (s : State) (chunk : List ℕ) (i : ℕ) (rs₀ rs : List ℕ) (r : Ran)
     → ready_of s ≡ true
-    → Run chunk i s.call.counts.readings s.line rs₀ r.used r.count r.line rs
+    → Run chunk i (counts_of s.call).readings s.line rs₀ r.used r.count r.line rs
     → RanAs s chunk i rs₀ rs r
-ran s chunk i rs₀ rs r e p = record { some = went; inside = p.inside; none = λ l. p.none (omega (arith, p.onward)) }
-  where
-    ready : Ready s
-    ready = is_ready s e
-
-    went : i < r.used → (t ks ls bs b l out : List ℕ) (at : ℕ) → Sound (whole s t ks ls bs rs₀ b l)
-        → Went (whole s t ks ls bs rs₀ b l) out at (drop i chunk) (whole (state_after s r) t ks ls bs rs b l) out at (drop r.used chunk)
-    went h t ks ls bs b l out at g =
-        record {
-          same = λ input. ap (λ (x : List ℕ). take at out ++ x) (still_printed input);
-          sound =
-              record {
-                part = omega arith;
-                small = record {
-                  counts = record {
-                    ops = g.small.counts.ops;
-                    bytes = g.small.counts.bytes;
-                    reads = g.small.counts.reads;
-                    readings = p.fits g.small.counts.readings;
-                  };
-                  none = λ (z : true ≡ false). absurd (false_true (sym z));
-                };
-                lent = record { kinds = g.lent.kinds; lengths = g.lent.lengths; bytes = g.lent.bytes; readings = p.size };
-                text = g.text;
-                buffer = g.buffer;
-                log = g.log;
-              };
-        }
-      where
-        begins : (q : Part) → q ≡ Text 0 → (line : ℕ) (k : Held) (input : List ℕ) → rest_of q line k t input ≡ from_line line k [] input
-        begins q f line k input = rw f
-
-        still_printed : (input : List ℕ)
-            → rest (whole s t ks ls bs rs₀ b l) (drop i chunk ++ input) ≡ rest
-            (whole (state_after s r) t ks ls bs rs b l) (drop r.used chunk ++ input)
-        still_printed input =
-            begins s.part ready.part s.line (session_of s.call s.slave (arrays ks ls bs rs₀)) (drop i chunk ++ input)
-            ∙ (ap (λ (k : Held). from_line s.line k [] (drop i chunk ++ input))
-            (open_session s.call s.slave (arrays ks ls bs rs₀) ready.busy)
-            ∙ (p.same s.slave s.call.call s.call.wants (kept_of s.call.counts (arrays ks ls bs rs₀)) ready.wants input
-            ∙ rw (lt-ltb i r.used h)))
+ran s chunk i rs₀ rs r e p =
+    let ready = is_ready s e in
+    ran_by s chunk i rs₀ rs r ready.open_call ready.part ready.call ready.wants p
 
 pub ran_not : (s : State) (chunk : List ℕ) (i : ℕ) (rs : List ℕ) (r : Ran) → i ≤ length chunk → r.used ≡ i → RanAs s chunk i rs rs r
 ran_not s chunk i rs r h e = record { some = λ l. absurd (omega arith); inside = omega arith; none = λ l. refl }

@@ -34,6 +34,3 @@ module _ {chunk : List ℕ} {i n : ℕ} (p : Scanned chunk i n) (h : i + n < len
   scan_more e =
       let a : i + (n + 1) ≡ i + n + 1 = omega arith in
       record { same = λ input. p.same input ∙ rw (next_byte, ne_eqb (get_or chunk (i + n) 0) 10 e, grown, a); within = omega arith }
-
-pub scan_not : (chunk : List ℕ) (i : ℕ) → Ahead chunk i 8199
-scan_not chunk i = record { found = λ l. absurd (omega arith); inside = λ l. absurd (omega arith) }

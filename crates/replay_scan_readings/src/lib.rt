@@ -6,9 +6,9 @@ ghost use Rattle.std.specs.Prelude.{◌≡◌, ◌+◌, ◌≤◌, length};
 ghost use Rattle.replay_calls.specs.Calls.{MOST_READINGS};
 ghost use Rattle.replay_scan_readings.specs.Inner.Run.{DigitValues, marked, PairAt, WordAt, ReadingAt};
 ghost use Rattle.replay_scan_readings.specs.Inner.Run.{Run};
-ghost use Rattle.replay_scan_readings.specs.Inner.Run.{RanAs, ready_of, state_after};
+ghost use Rattle.replay_scan_readings.specs.Inner.Run.{RanAs, ready_of, reopened, state_after};
 
-use replay_session::{Counts, Open, Wants, is_complete};
+use replay_session::{Counts, Open, Wants, counts_of};
 use replay_state::turns::next_line;
 use replay_state::{Part, State};
 
@@ -79,12 +79,8 @@ fn reading_at(values: &[u8], chunk: &[u8], i: usize) -> Option<u32>
     if left < 11 {
         return None;
     }
-    if chunk[i] == 50 {
-        if chunk[i + 1] == 48 {
-            if chunk[i + 10] == 10 {
-                return word(values, chunk, i + 2);
-            }
-        }
+    if chunk[i] == 50 && chunk[i + 1] == 48 && chunk[i + 10] == 10 {
+        return word(values, chunk, i + 2);
     }
     None
 }
@@ -158,13 +154,9 @@ fn run(chunk: &[u8], i: usize, first: usize, number: u32, readings: &mut [u32]) 
 fn is_ready(s: State) -> bool
     ensures { result ≡ ready_of s }
 {
-    let p = s.part;
-    let call = s.call;
-    let wants = call.wants;
-    match p {
-        Part::Stopped => false,
-        Part::Text(n) => (n == 0) & (call.busy & is_complete(wants)),
-        Part::Long(_) => false,
+    match (s.part, s.call) {
+        (Part::Text(0), Some(o)) => o.wants.is_complete(),
+        _ => false,
     }
 }
 
@@ -174,41 +166,39 @@ pub fn run_readings(chunk: &[u8], i: usize, s: State, readings: &mut [u32]) -> R
         × (length readings.old ≡ MOST_READINGS) }
     ensures { RanAs s chunk.now i readings.old readings.new result }
 {
-    let call = s.call;
-    let n = call.counts;
+    let first = counts_of(s.call).readings;
     if is_ready(s) {
-        return run(chunk, i, n.readings, s.line, readings);
+        return run(chunk, i, first, s.line, readings);
     }
     Ran {
         used: i,
-        count: n.readings,
+        count: first,
         line: s.line,
     }
+}
+
+fn reopened(call: Option<Open>, count: usize) -> Option<Open>
+    ensures { result ≡ reopened call count }
+{
+    let o = call?;
+    Some(Open {
+        wants: Wants::Nothing,
+        counts: Counts {
+            readings: count,
+            ..o.counts
+        },
+        ..o
+    })
 }
 
 // The reader behind a run.
 pub fn after_run(s: State, r: Ran) -> State
     ensures { result ≡ state_after s r }
 {
-    let open = s.call;
-    let call = open.call;
-    let n = open.counts;
-    let slave = s.slave;
     State {
         line: r.line,
         part: Part::Text(0),
-        call: Open {
-            busy: true,
-            call,
-            wants: Wants::Nothing,
-            counts: Counts {
-                large: n.large,
-                ops: n.ops,
-                bytes: n.bytes,
-                reads: n.reads,
-                readings: r.count,
-            },
-        },
-        slave,
+        call: reopened(s.call, r.count),
+        ..s
     }
 }

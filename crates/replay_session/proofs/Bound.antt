@@ -9,7 +9,7 @@ use lib.Dec.{ltb}
 use lib.ListN.{length, length-append}
 use borrow.Author.Tests.{ltb-true, lt-ltb}
 use Rattle.regs.proofs.Tests.{false_true}
-use Rattle.std.specs.Prelude.{if◌then◌else◌, Some}
+use Rattle.std.specs.Prelude.{if◌then◌else◌, Option, Some, None}
 use Rattle.master.specs.Operations.{Operation, writes, reads, READ, WRITE}
 use Rattle.slave.specs.declared.SlaveState.{SlaveState}
 use Rattle.replay_calls.specs.Calls.{MOST_READINGS, Listed, listed, listing, call_text, slave_after}
@@ -24,8 +24,6 @@ use Rattle.replay_session.specs.Inner.Bounded.{over, Kept, kept, large, bounded,
 use Rattle.replay_session.specs.Inner.Bounded.{operation, kept_text, kept_slave, next_held, holds_call}
 use Rattle.replay_session.specs.declared.Wants.{Wants}
 use Rattle.replay_session.specs.declared.Wants.TheVariants.{Nothing}
-use Rattle.replay_session.specs.declared.Took.{Took}
-use Rattle.replay_session.specs.declared.Took.TheVariants.{Now, Never}
 use Rattle.replay_session.proofs.Forms.{taken, after, done, form_of, Came, came_more, came_closed, Right, frame_right}
 use Rattle.replay_session.proofs.Over.{over_refused}
 
@@ -132,13 +130,13 @@ abbrev Formed : Session → Type 0
 Formed (S.idle s) = Unit {0}
 Formed (S.within s c w os rs) = Came (form_of c) w os
 
-keeps : (s : SlaveState) (c : Call) (os : List (Operation ℕ)) (o : Operation ℕ) (rs : List ℕ) (t : Took)
+keeps : (s : SlaveState) (c : Call) (os : List (Operation ℕ)) (o : Operation ℕ) (rs : List ℕ) (t : Option Wants)
     → operation s c (add (bounded (listing os)) o) rs t ≡ both (S.operation s c (os ++ (o ∷ [])) rs t)
-keeps s c os o rs Never = refl
-keeps s c os o rs (Now w) = rw (bounded_more os o)
+keeps s c os o rs None = refl
+keeps s c os o rs (Some w) = rw (bounded_more os o)
 
 -- where nothing is kept, the call's driver refuses with 20
-runs : (s : SlaveState) (c : Call) (os : List (Operation ℕ)) (rs : List ℕ) → done (after os (Now (form_of c))) ≡ true
+runs : (s : SlaveState) (c : Call) (os : List (Operation ℕ)) (rs : List ℕ) → done (after os (Some (form_of c))) ≡ true
     → going (idle (kept_slave c (bounded (listing os)) rs s)) (kept_text c (bounded (listing os)) rs s) ≡ going
     (idle (slave_after c (listing os) rs s)) (call_text c (listing os) rs s)
 runs s c os rs d = go (over (listing os)) refl
@@ -184,12 +182,12 @@ abbrev FormedNext : Next Session → Type 0
 FormedNext (going h t) = Formed h
 FormedNext malformed = Unit {0}
 
-taken_formed : (s : SlaveState) (c : Call) {w : Wants} {os : List (Operation ℕ)} (o : Operation ℕ) (rs : List ℕ) (t : Took)
+taken_formed : (s : SlaveState) (c : Call) {w : Wants} {os : List (Operation ℕ)} (o : Operation ℕ) (rs : List ℕ) (t : Option Wants)
     → Came (form_of c) w os
-    → taken o (Now w) ≡ t
+    → taken o (Some w) ≡ t
     → FormedNext (S.operation s c (os ++ (o ∷ [])) rs t)
-taken_formed s c o rs Never p e = tt
-taken_formed s c o rs (Now v) p e = came_more p o v e
+taken_formed s c o rs None p e = tt
+taken_formed s c o rs (Some v) p e = came_more p o v e
 
 formed : (h : Session) (f : Frame) → Formed h → Right f → FormedNext (next h f)
 formed (S.idle s) (opens c os) p r = r.right

@@ -9,33 +9,32 @@ use lib.ListN.{length}
 use Rattle.std.specs.Prelude.{if◌then◌else◌, Option, Some, None}
 use Rattle.regs.proofs.Tests.{false_true}
 use Rattle.master.specs.Operations.{Operation, writes, reads}
+use Rattle.replay_calls.specs.Form as Form
+use Rattle.replay_calls.specs.declared.form.Form.{Form}
 use Rattle.replay_calls.specs.declared.Call.{Call}
 use Rattle.replay_calls.specs.declared.Call.TheVariants.{Clock, Master, Reset, Listen, Respond, Fill, RespondAndFill}
 use Rattle.text_hex.specs.Text.{number_at, bytes_of}
 use Rattle.replay_frames.specs.Frame.{Frame, opens, write, read, reading, run, bad, frame_of, by_head, bytes_frame}
-use Rattle.replay_frames.specs.Frame.{of_kind, slave_of, sized, clock_of, master_of, reset_of, listen_of, fill_of}
+use Rattle.replay_frames.specs.Frame.{of_kind, slave_of, sized, clock_of, master_by, master_of, reset_of, listen_of, fill_of}
 use Rattle.replay_frames.specs.Frame.{read_of, reading_of, head_of}
 use Rattle.replay_frames.specs.declared.Line.{Line}
-use Rattle.replay_frames.specs.declared.Head.{Head}
 use Rattle.replay_session.specs.Session.{wants_by, wants_of, read_taken, write_taken, complete}
 use Rattle.replay_session.specs.declared.Wants.{Wants}
 use Rattle.replay_session.specs.declared.Wants.TheVariants.{Nothing, Write}
-use Rattle.replay_session.specs.declared.Took.{Took}
-use Rattle.replay_session.specs.declared.Took.TheVariants.{Now, Never}
 
 -- ---- operations in order
 
-abbrev pub taken : Operation ℕ → Took → Took
-taken o Never = Never
-taken (writes bs) (Now w) = write_taken w
-taken (reads n) (Now w) = read_taken w
+abbrev pub taken : Operation ℕ → Option Wants → Option Wants
+taken o None = None
+taken (writes bs) (Some w) = write_taken w
+taken (reads n) (Some w) = read_taken w
 
 -- what is wanted after some operations, if each of them may come
-unfoldable pub after : List (Operation ℕ) → Took → Took
+unfoldable pub after : List (Operation ℕ) → Option Wants → Option Wants
 after [] t = t
 after (o ∷ os) t = after os (taken o t)
 
-after_more : (os : List (Operation ℕ)) (o : Operation ℕ) (t : Took) → after (os ++ (o ∷ [])) t ≡ taken o (after os t)
+after_more : (os : List (Operation ℕ)) (o : Operation ℕ) (t : Option Wants) → after (os ++ (o ∷ [])) t ≡ taken o (after os t)
 unfolding after
 after_more [] o t = refl
 after_more (p ∷ os) o t = after_more os o (taken p t)
@@ -45,39 +44,39 @@ after_more (p ∷ os) o t = after_more os o (taken p t)
 -- a response has come with its bytes
 abbrev pub form_of : Call → Wants
 form_of (Clock frequency clk) = Nothing
-form_of (Master form address) = wants_by form
+form_of (Master form address) = wants_by form.kind
 form_of (Reset address general_call) = Nothing
 form_of (Listen n) = Nothing
 form_of Respond = Write
 form_of (Fill fill) = Nothing
 form_of (RespondAndFill fill) = Write
 
-abbrev pub done : Took → Bool
-done Never = false
-done (Now w) = complete w
+abbrev pub done : Option Wants → Bool
+done None = false
+done (Some w) = complete w
 
 -- at the start `first` was wanted, now w is wanted, and os have come: an operation that may come now may come after os,
 -- and where the call can run, os are enough
 pub record Came (first w : Wants) (os : List (Operation ℕ)) : Type 0 where
-  pub more : (o : Operation ℕ) (v : Wants) → taken o (Now w) ≡ Now v → taken o (after os (Now first)) ≡ Now v
-  pub enough : complete w ≡ true → done (after os (Now first)) ≡ true
+  pub more : (o : Operation ℕ) (v : Wants) → taken o (Some w) ≡ Some v → taken o (after os (Some first)) ≡ Some v
+  pub enough : complete w ≡ true → done (after os (Some first)) ≡ true
 
-came_by : {first w : Wants} {os : List (Operation ℕ)} → after os (Now first) ≡ Now w → Came first w os
+came_by : {first w : Wants} {os : List (Operation ℕ)} → after os (Some first) ≡ Some w → Came first w os
 came_by e = record { more = λ o v t. ap (taken o) e ∙ t; enough = λ c. ap done e ∙ c }
 
 module _ {first w : Wants} {os : List (Operation ℕ)} (p : Came first w os) where
-  pub came_more : (o : Operation ℕ) (v : Wants) → taken o (Now w) ≡ Now v → Came first v (os ++ (o ∷ []))
-  came_more o v t = came_by (after_more os o (Now first) ∙ p.more o v t)
+  pub came_more : (o : Operation ℕ) (v : Wants) → taken o (Some w) ≡ Some v → Came first v (os ++ (o ∷ []))
+  came_more o v t = came_by (after_more os o (Some first) ∙ p.more o v t)
 
   -- after a reading no more operations come
   pub came_closed : complete w ≡ true → Came first Nothing os
   came_closed c = record { more = λ o v t. absurd (none_taken o t); enough = λ _. p.enough c }
     where
-      is_now : Took → Bool
-      is_now Never = false
-      is_now (Now w) = true
+      is_now : Option Wants → Bool
+      is_now None = false
+      is_now (Some w) = true
 
-      none_taken : (o : Operation ℕ) {v : Wants} → taken o (Now Nothing) ≡ Now v → ⊥
+      none_taken : (o : Operation ℕ) {v : Wants} → taken o (Some Nothing) ≡ Some v → ⊥
       none_taken (writes bs) z = false_true (ap is_now z)
       none_taken (reads n) z = false_true (ap is_now z)
 
@@ -121,9 +120,13 @@ clock_right (Some f) (Some c) = opened (Clock f c) [] (came_none Nothing)
 clock_right (Some f) None = is_bad
 clock_right None c = is_bad
 
+master_by_right : (form : Option Form) (address : ℕ) → Right (master_by form address)
+master_by_right (Some form) address = opened (Master form address) [] (came_none (wants_by form.kind))
+master_by_right None address = is_bad
+
 master_right : (f a : Option ℕ) → Right (master_of f a)
-master_right (Some form) (Some address) = either (ltb form 16) (opened (Master form address) [] (came_none (wants_by form))) is_bad
-master_right (Some form) None = is_bad
+master_right (Some bits) (Some address) = master_by_right (Form.form_of bits) address
+master_right (Some bits) None = is_bad
 master_right None address = is_bad
 
 reset_right : (a g : Option ℕ) → Right (reset_of a g)
@@ -178,6 +181,6 @@ bytes_right (Line.RespondAndFill b) (Some bs) = record { right = came_by refl }
 pub frame_right : (line : List ℕ) → Right (frame_of line)
 frame_right line = by (head_of line)
   where
-    by : (h : Head) → Right (by_head line h)
-    by Head.Plain = kind_right line (number_at line 0 2)
-    by (Head.Bytes l) = bytes_right l (bytes_of _)
+    by : (h : Option Line) → Right (by_head line h)
+    by None = kind_right line (number_at line 0 2)
+    by (Some l) = bytes_right l (bytes_of _)

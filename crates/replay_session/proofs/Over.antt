@@ -1,6 +1,6 @@
 -- Operations of a call's form that are beyond the limits are refused by the call's driver, with number 20
 -- (`over_refused`): `fits` and `lists` are false then, and the slave's `within_limits` exits.
-use Prim.Native.Nat.{ℕ, ◌+◌, ◌%◌}
+use Prim.Native.Nat.{ℕ, ◌+◌}
 use mathlib.Core.Bool.{Bool, true, false, ◌&&◌, ◌||◌}
 use mathlib.Core.List.{List, [], ◌∷◌, ◌++◌}
 use mathlib.Core.Path.{◌≡◌, refl}
@@ -8,7 +8,7 @@ use lib.Dec.{eqb, ltb, leb}
 use lib.ListN.{length}
 use borrow.Author.Tests.{ltb-true, lt-leb}
 use Rattle.regs.specs.Program.{Program, behaviour, ends, Outcome, outcome, just}
-use Rattle.std.specs.Prelude.{if◌then◌else◌}
+use Rattle.std.specs.Prelude.{Some, None}
 use Rattle.regs.proofs.Tests.{false_true}
 use Rattle.regs.specs.declared.answers.Answer.{Answer}
 use Rattle.regs.specs.declared.answers.Answer.TheVariants.{Refused}
@@ -16,29 +16,28 @@ use Rattle.regs.specs.declared.answers.Refusal.TheVariants.{OverLimits}
 use Rattle.regs.specs.declared.answers.Reply.{Reply}
 use Rattle.regs.specs.declared.answers.Reply.TheVariants.{Answered}
 use Rattle.master.specs.Operations.{Operation, writes, reads, READ, WRITE, fits, lists, known, total}
-use Rattle.master.specs.Operations.{read, write, write_read, transaction}
-use Rattle.master.specs.Operations as Master
 use Rattle.slave.specs.I2cSlave.{respond_to_read_call, respond_and_fill_call}
 use Rattle.slave.specs.declared.SlaveState.{SlaveState}
 use Rattle.text_hex.specs.Print.{log_text, answer_text}
-use Rattle.replay_calls.specs.Calls.{LOG_ENTRIES, replayed, Listed, listing, within_form, transfer_of, keeping}
+use Rattle.replay_calls.specs.Calls.{LOG_ENTRIES, replayed, Listed, listing, transfer_by, transfer_of, keeping}
 use Rattle.replay_calls.specs.Calls.{outcome_of, outcome_text, has_buffer}
+use Rattle.replay_calls.specs.declared.form.Kind.{Kind}
+use Rattle.replay_calls.specs.declared.form.Form.{Form}
 use Rattle.replay_calls.specs.declared.Call.{Call}
 use Rattle.replay_calls.specs.declared.Call.TheVariants.{Clock, Master, Reset, Listen, Respond, Fill, RespondAndFill}
 use Rattle.replay_session.specs.Session.{wants_by}
 use Rattle.replay_session.specs.Inner.Bounded.{over}
 use Rattle.replay_session.specs.declared.Wants.TheVariants.{Nothing, Read, Write, Both, Any}
-use Rattle.replay_session.specs.declared.Took.TheVariants.{Now, Never}
 use Rattle.replay_session.proofs.Forms.{after, done, form_of}
 
 -- ---- which operations a form has
 
-never_done : (os : List (Operation ℕ)) → done (after os Never) ≡ true → ⊥
+never_done : (os : List (Operation ℕ)) → done (after os None) ≡ true → ⊥
 unfolding after
 never_done [] e = false_true e
 never_done (o ∷ os) e = never_done os e
 
-none_left : (os : List (Operation ℕ)) → done (after os (Now Nothing)) ≡ true → os ≡ []
+none_left : (os : List (Operation ℕ)) → done (after os (Some Nothing)) ≡ true → os ≡ []
 unfolding after
 none_left [] e = refl
 none_left (writes bs ∷ os) e = absurd (never_done os e)
@@ -85,13 +84,13 @@ lists_none l o =
     go true e o = rw (lt-leb (length l.kinds) 64 (ltb-true 64 (length l.kinds) e))
     go false e o = rw (either_beyond (length l.bytes) l.room o) (and_false (leb (length l.kinds) 64))
 
-one_read : (os : List (Operation ℕ)) → done (after os (Now Read)) ≡ true → over (listing os) ≡ true → ltb 4096 (listing os).room ≡ true
+one_read : (os : List (Operation ℕ)) → done (after os (Some Read)) ≡ true → over (listing os) ≡ true → ltb 4096 (listing os).room ≡ true
 unfolding after listing
 one_read [] e o = absurd (false_true e)
 one_read (writes bs ∷ os) e o = absurd (never_done os e)
 one_read (reads n ∷ os) e o = rw (none_left os e) (rw (none_left os e) at o)
 
-one_write : (os : List (Operation ℕ)) → done (after os (Now Write)) ≡ true → over (listing os) ≡ true
+one_write : (os : List (Operation ℕ)) → done (after os (Some Write)) ≡ true → over (listing os) ≡ true
     → ltb 4096 (length (listing os).bytes) ≡ true
 unfolding after listing
 one_write [] e o = absurd (false_true e)
@@ -99,7 +98,7 @@ one_write (reads n ∷ os) e o = absurd (never_done os e)
 one_write (writes bs ∷ os) e o = rw (none_left os e) (or_false (ltb 4096 (length (bs ++ []))) (rw (none_left os e) at o))
 
 -- a write, then a read
-both_fit : (os : List (Operation ℕ)) → done (after os (Now Both)) ≡ true → over (listing os) ≡ true
+both_fit : (os : List (Operation ℕ)) → done (after os (Some Both)) ≡ true → over (listing os) ≡ true
     → (fits (length (listing os).bytes) && fits (listing os).room) ≡ false
 unfolding after listing
 both_fit [] e o = absurd (false_true e)
@@ -114,24 +113,23 @@ both_fit (writes bs ∷ reads n ∷ os) e o =
 abbrev Refuses : {S : Type 0} → Program S Answer Answer → Type 0
 Refuses p = behaviour p LOG_ENTRIES ≡ ends (Refused OverLimits)
 
-transfer_refuses : (form address : ℕ) (os : List (Operation ℕ)) → done (after os (Now (wants_by form))) ≡ true → over (listing os) ≡ true
+transfer_refuses : (form : Form) (address : ℕ) (os : List (Operation ℕ))
+    → done (after os (Some (wants_by form.kind))) ≡ true
+    → over (listing os) ≡ true
     → Refuses (transfer_of form address (listing os))
-transfer_refuses form address os = by (eqb (form % 4) 0) (eqb (form % 4) 1) (eqb (form % 4) 2)
+transfer_refuses form address os = by form.kind
   where
     l : Listed
     l = listing os
 
-    by : (a b c : Bool) → done (after os (Now (if a then Read else (if b then Write else (if c then Both else Any))))) ≡ true
+    by : (kind : Kind)
+        → done (after os (Some (wants_by kind))) ≡ true
         → over l ≡ true
-        → Refuses (if a then within_form form address (fits l.room) (read l.room) else
-        (if b then within_form form address (fits (length l.bytes)) (write l.bytes) else
-        (if c then within_form form address (fits (length l.bytes) && fits l.room) (write_read l.bytes l.room) else
-        within_form form address (lists l.kinds l.lengths (length l.bytes) l.room)
-        (transaction (Master.listed l.kinds l.lengths l.bytes)))))
-    by true b c e o = rw (beyond l.room (one_read os e o))
-    by false true c e o = rw (beyond (length l.bytes) (one_write os e o))
-    by false false true e o = rw (both_fit os e o)
-    by false false false e o = rw (lists_none l o)
+        → Refuses (transfer_by kind form address l)
+    by Kind.Read e o = rw (beyond l.room (one_read os e o))
+    by Kind.Write e o = rw (beyond (length l.bytes) (one_write os e o))
+    by Kind.WriteRead e o = rw (both_fit os e o)
+    by Kind.Transaction e o = rw (lists_none l o)
 
 -- what is printed of a refusal, and the state after it
 pub record As20 (b : Bool) (s : SlaveState) (o : Outcome SlaveState Reply) : Type 0 where
@@ -154,12 +152,12 @@ kept_refused : (p : Program (Unit {0}) Answer Answer) (b : Bool) (readings buffe
 unfolding replayed outcome
 kept_refused p b readings buffer s e = record { text = rw e (printed_20 b buffer s); state = refl }
 
-over_none : {P : Type 0} (os : List (Operation ℕ)) → done (after os (Now Nothing)) ≡ true → over (listing os) ≡ true → P
+over_none : {P : Type 0} (os : List (Operation ℕ)) → done (after os (Some Nothing)) ≡ true → over (listing os) ≡ true → P
 unfolding listing
 over_none os e o = absurd (false_true (rw (none_left os e) at o))
 
 pub over_refused : (c : Call) (os : List (Operation ℕ)) (readings : List ℕ) (s : SlaveState)
-    → done (after os (Now (form_of c))) ≡ true
+    → done (after os (Some (form_of c))) ≡ true
     → over (listing os) ≡ true
     → As20 (has_buffer c (listing os)) s (outcome_of c (listing os) readings s)
 unfolding respond_to_read_call respond_and_fill_call

@@ -1,27 +1,29 @@
 -- Frames in order: what the replay prints of an input. This is the statement.
-use Rattle.std.specs.Prelude.{ℕ, ◌+◌, ◌%◌, Bool, true, false, List, [], ◌∷◌, ◌++◌, eqb, ltb, length, if◌then◌else◌, None}
+use Rattle.std.specs.Prelude.{ℕ, ◌+◌, Bool, true, false, Option, Some, None, List, [], ◌∷◌, ◌++◌, ltb, length, if◌then◌else◌}
 use Rattle.master.specs.Operations.{Operation, writes, reads}
 use Rattle.slave.specs.declared.SlaveState.{SlaveState}
 use Rattle.text_hex.specs.Text.{lines}
 use Rattle.text_hex.specs.Print.{answer_text}
 use Rattle.replay_calls.specs.Calls.{MOST_READINGS, listing, call_text, slave_after}
+use Rattle.replay_calls.specs.declared.form.Kind.{Kind}
 use Rattle.replay_calls.specs.declared.Call.{Call}
 use Rattle.replay_calls.specs.declared.Call.TheVariants.{Clock, Master, Reset, Listen, Respond, Fill, RespondAndFill}
 use Rattle.replay_frames.specs.Frame.{Frame, opens, write, read, reading, run, bad, frame_of}
 use Rattle.replay_session.specs.declared.Wants.{Wants}
 use Rattle.replay_session.specs.declared.Wants.TheVariants.{Nothing, Read, Write, Both, Any}
-use Rattle.replay_session.specs.declared.Took.{Took}
-use Rattle.replay_session.specs.declared.Took.TheVariants.{Now, Never}
 
 -- ---- which operations come when
 
--- by the kind, bits 0 and 1 of a form: 0 takes one `11`, 1 one `10`, 2 a `10` then an `11`, 3 any; no other call takes one
-abbrev pub wants_by : ℕ → Wants
-wants_by form = if eqb (form % 4) 0 then Read else (if eqb (form % 4) 1 then Write else (if eqb (form % 4) 2 then Both else Any))
+-- a read takes one `11`, a write one `10`, a write-read a `10` then an `11`, a transaction any; no other call takes one
+abbrev pub wants_by : Kind → Wants
+wants_by Kind.Read = Read
+wants_by Kind.Write = Write
+wants_by Kind.WriteRead = Both
+wants_by Kind.Transaction = Any
 
 abbrev pub wants_of : Call → Wants
 wants_of (Clock frequency clk) = Nothing
-wants_of (Master form address) = wants_by form
+wants_of (Master form address) = wants_by form.kind
 wants_of (Reset address general_call) = Nothing
 wants_of (Listen n) = Nothing
 wants_of Respond = Nothing
@@ -29,19 +31,19 @@ wants_of (Fill fill) = Nothing
 wants_of (RespondAndFill fill) = Nothing
 
 -- what is wanted after an operation, if it may come now
-abbrev pub read_taken : Wants → Took
-read_taken Nothing = Never
-read_taken Read = Now Nothing
-read_taken Write = Never
-read_taken Both = Never
-read_taken Any = Now Any
+abbrev pub read_taken : Wants → Option Wants
+read_taken Nothing = None
+read_taken Read = Some Nothing
+read_taken Write = None
+read_taken Both = None
+read_taken Any = Some Any
 
-abbrev pub write_taken : Wants → Took
-write_taken Nothing = Never
-write_taken Read = Never
-write_taken Write = Now Nothing
-write_taken Both = Now Read
-write_taken Any = Now Any
+abbrev pub write_taken : Wants → Option Wants
+write_taken Nothing = None
+write_taken Read = None
+write_taken Write = Some Nothing
+write_taken Both = Some Read
+write_taken Any = Some Any
 
 -- no operation is missing
 abbrev pub complete : Wants → Bool
@@ -63,9 +65,9 @@ pub data Session : Type 0 where
   idle : SlaveState → Session
   within : SlaveState → Call → Wants → List (Operation ℕ) → List ℕ → Session
 
-abbrev pub operation : SlaveState → Call → List (Operation ℕ) → List ℕ → Took → Next Session
-operation s c os rs Never = malformed
-operation s c os rs (Now w) = going (within s c w os rs) []
+abbrev pub operation : SlaveState → Call → List (Operation ℕ) → List ℕ → Option Wants → Next Session
+operation s c os rs None = malformed
+operation s c os rs (Some w) = going (within s c w os rs) []
 
 abbrev pub next : Session → Frame → Next Session
 next (idle s) (opens c os) = going (within s c (wants_of c) os []) []

@@ -3,7 +3,7 @@ ghost use Rattle.std.specs.Prelude.{◌≡◌, length, ◌≤◌};
 ghost use Rattle.replay_session.specs.Inner.Enter.{Small, PairsAs, longest_kept};
 
 use super::enter::enter_bytes;
-use super::{Entered, Open};
+use super::{Entered, Malformed, Open, counts_of};
 use replay_frames::Line;
 use slave::SlaveState;
 use text_hex::digits::{is_pairs, put_bytes};
@@ -12,23 +12,22 @@ use text_hex::digits::{is_pairs, put_bytes};
 pub fn enter_pairs(
     l: Line,
     ds: &[u8],
-    o: Open,
+    call: Option<Open>,
     s: SlaveState,
     kinds: &mut [u8],
     lengths: &mut [u16],
     bytes: &mut [u8],
     at: usize,
-) -> Entered
-    requires { Small o
+) -> Result<Entered, Malformed>
+    requires { Small call
         × (length bytes.old ≡ 4096)
         × (length ds.now ≤ longest_kept) }
-    ensures { PairsAs l ds.now o s kinds.old lengths.old
+    ensures { PairsAs l ds.now call s kinds.old lengths.old
         bytes.old kinds.new lengths.new bytes.new at result }
 {
     if is_pairs(ds) {
-        let n = o.counts;
-        put_bytes(ds, bytes, n.bytes);
-        return enter_bytes(l, ds.len() / 2, o, s, kinds, lengths, at);
+        put_bytes(ds, bytes, counts_of(call).bytes);
+        return enter_bytes(l, ds.len() / 2, call, s, kinds, lengths, at);
     }
-    Entered::Malformed
+    Err(Malformed)
 }

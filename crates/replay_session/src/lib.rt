@@ -7,9 +7,10 @@ pub mod enter; // what each frame does
 
 ghost use Rattle.std.specs.Prelude.{◌≡◌};
 ghost use Rattle.replay_session.specs.Session.{wants_by, wants_of, read_taken, write_taken, complete};
-ghost use Rattle.replay_session.specs.Inner.Enter.{taken_as, taken_by};
+ghost use Rattle.replay_session.specs.Inner.Enter.{counts_of, taken_by};
 
 use replay_calls::Call;
+use replay_calls::form::Kind;
 use replay_frames::Line;
 use slave::SlaveState;
 
@@ -23,20 +24,6 @@ pub enum Wants {
     Any,
 }
 
-// What is wanted after an operation, if it may come now.
-#[derive(Clone, Copy)]
-pub enum Took {
-    Now(Wants),
-    Never,
-}
-
-// The call after a line of bytes and what it wants then, if the line may come now.
-#[derive(Clone, Copy)]
-pub enum Taken {
-    Now(Call, Wants),
-    Never,
-}
-
 // How much of each lent slice the open call has filled, or that its operations are beyond the limits.
 #[derive(Clone, Copy)]
 pub struct Counts {
@@ -47,122 +34,108 @@ pub struct Counts {
     pub readings: usize,
 }
 
-// The call that is open, if one is.
+// A call that is open.
 #[derive(Clone, Copy)]
 pub struct Open {
-    pub busy: bool,
     pub call: Call,
     pub wants: Wants,
     pub counts: Counts,
 }
 
-// What a frame leads to: the open call and the slave's state
-// after it, and where what was printed ends; or it is malformed.
+// What a frame leads to: the open call, if one is, and the slave's state after it, and where what was printed ends.
 #[derive(Clone, Copy)]
-pub enum Entered {
-    Going(Open, SlaveState, usize),
-    Malformed,
+pub struct Entered {
+    pub call: Option<Open>,
+    pub slave: SlaveState,
+    pub end: usize,
 }
 
-fn wants_by(form: u8) -> Wants
-    ensures { result ≡ wants_by form }
-{
-    let f = form % 4;
-    if f == 0 {
-        return Wants::Read;
-    }
-    if f == 1 {
-        return Wants::Write;
-    }
-    if f == 2 {
-        return Wants::Both;
-    }
-    Wants::Any
-}
+// A frame that is malformed, or comes out of order.
+#[derive(Clone, Copy)]
+pub struct Malformed;
 
-fn wants_of(c: Call) -> Wants
-    ensures { result ≡ wants_of c }
-{
-    match c {
-        Call::Clock(_, _) => Wants::Nothing,
-        Call::Master(form, _) => wants_by(form),
-        Call::Reset(_, _) => Wants::Nothing,
-        Call::Listen(_) => Wants::Nothing,
-        Call::Respond => Wants::Nothing,
-        Call::Fill(_) => Wants::Nothing,
-        Call::RespondAndFill(_) => Wants::Nothing,
-    }
-}
-
-fn read_taken(w: Wants) -> Took
-    ensures { result ≡ read_taken w }
-{
-    match w {
-        Wants::Nothing => Took::Never,
-        Wants::Read => Took::Now(Wants::Nothing),
-        Wants::Write => Took::Never,
-        Wants::Both => Took::Never,
-        Wants::Any => Took::Now(Wants::Any),
-    }
-}
-
-fn write_taken(w: Wants) -> Took
-    ensures { result ≡ write_taken w }
-{
-    match w {
-        Wants::Nothing => Took::Never,
-        Wants::Read => Took::Never,
-        Wants::Write => Took::Now(Wants::Nothing),
-        Wants::Both => Took::Now(Wants::Read),
-        Wants::Any => Took::Now(Wants::Any),
-    }
-}
-
-pub fn is_complete(w: Wants) -> bool
-    ensures { result ≡ complete w }
-{
-    match w {
-        Wants::Nothing => true,
-        Wants::Read => false,
-        Wants::Write => false,
-        Wants::Both => false,
-        Wants::Any => true,
-    }
-}
-
-fn taken_as(c: Call, t: Took) -> Taken
-    ensures { result ≡ taken_as c t }
-{
-    match t {
-        Took::Now(w) => Taken::Now(c, w),
-        Took::Never => Taken::Never,
-    }
-}
-
-// Whether a line of bytes comes in order.
-fn taken_by(l: Line, o: Open) -> Taken
-    ensures { result ≡ taken_by l o }
-{
-    let call = o.call;
-    let wants = o.wants;
-    match l {
-        Line::Write => {
-            if o.busy {
-                return taken_as(call, write_taken(wants));
-            }
-            Taken::Never
+impl Wants {
+    fn of_kind(kind: Kind) -> Wants
+        ensures { result ≡ wants_by kind }
+    {
+        match kind {
+            Kind::Read => Wants::Read,
+            Kind::Write => Wants::Write,
+            Kind::WriteRead => Wants::Both,
+            Kind::Transaction => Wants::Any,
         }
-        Line::Respond => {
-            if o.busy {
-                return Taken::Never;
-            }
-            Taken::Now(Call::Respond, Wants::Nothing)
+    }
+
+    // Only a transfer wants operations: the bytes of a response come with its call.
+    fn of(call: Call) -> Wants
+        ensures { result ≡ wants_of call }
+    {
+        match call {
+            Call::Master(form, _) => Wants::of_kind(form.kind),
+            _ => Wants::Nothing,
         }
-        Line::RespondAndFill(fill) => {
-            if o.busy {
-                return Taken::Never;
-            }
-            Taken::Now(Call::RespondAndFill(fill), Wants::Nothing)
+    }
+
+    // What is wanted after a read, if one may come now.
+    fn after_read(self) -> Option<Wants>
+        ensures { result ≡ read_taken self }
+    {
+        match self {
+            Wants::Read => Some(Wants::Nothing),
+            Wants::Any => Some(Wants::Any),
+            Wants::Nothing | Wants::Write | Wants::Both => None,
         }
+    }
+
+    // What is wanted after a write, if one may come now.
+    fn after_write(self) -> Option<Wants>
+        ensures { result ≡ write_taken self }
+    {
+        match self {
+            Wants::Write => Some(Wants::Nothing),
+            Wants::Both => Some(Wants::Read),
+            Wants::Any => Some(Wants::Any),
+            Wants::Nothing | Wants::Read => None,
+        }
+    }
+
+    pub fn is_complete(self) -> bool
+        ensures { result ≡ complete self }
+    {
+        matches!(self, Wants::Nothing | Wants::Any)
+    }
+}
+
+// With no call call nothing is filled.
+pub fn counts_of(call: Option<Open>) -> Counts
+    ensures { result ≡ counts_of call }
+{
+    match call {
+        Some(o) => o.counts,
+        None => Counts::none(),
+    }
+}
+
+// The open call after a line of bytes, with its counts then, if the line may come now.
+fn taken_by(l: Line, call: Option<Open>, counts: Counts) -> Option<Open>
+    ensures { result ≡ taken_by l call counts }
+{
+    match (l, call) {
+        (Line::Write, Some(o)) => Some(Open {
+            wants: o.wants.after_write()?,
+            counts,
+            ..o
+        }),
+        (Line::Respond, None) => Some(Open {
+            call: Call::Respond,
+            wants: Wants::Nothing,
+            counts,
+        }),
+        (Line::RespondAndFill(fill), None) => Some(Open {
+            call: Call::RespondAndFill(fill),
+            wants: Wants::Nothing,
+            counts,
+        }),
+        _ => None,
     }
 }

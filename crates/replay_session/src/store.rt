@@ -5,84 +5,72 @@ ghost use Rattle.replay_session.specs.Inner.Enter.{Within};
 
 use super::Counts;
 
-pub fn none() -> Counts
-    ensures { result ≡ no_counts }
-{
-    Counts {
-        large: false,
-        ops: 0,
-        bytes: 0,
-        reads: 0,
-        readings: 0,
+impl Counts {
+    pub fn none() -> Counts
+        ensures { result ≡ no_counts }
+    {
+        Counts {
+            large: false,
+            ops: 0,
+            bytes: 0,
+            reads: 0,
+            readings: 0,
+        }
     }
-}
 
-pub fn over(n: Counts) -> Counts
-    ensures { result ≡ over_of n }
-{
-    Counts {
-        large: true,
-        ops: n.ops,
-        bytes: n.bytes,
-        reads: n.reads,
-        readings: n.readings,
+    pub fn over(self) -> Counts
+        ensures { result ≡ over_of self }
+    {
+        Counts {
+            large: true,
+            ..self
+        }
     }
-}
 
-fn is_too_many(n: Counts, b: usize, m: usize) -> bool
-    requires { Within n
-        × (b ≤ 65535)
-        × (m ≤ 65535) }
-    ensures { result ≡ too_many n b m }
-{
-    (64 < n.ops + 1) | ((4096 < n.bytes + b) | (4096 < n.reads + m))
-}
+    fn is_too_many(self, b: usize, m: usize) -> bool
+        requires { Within self
+            × (b ≤ 65535)
+            × (m ≤ 65535) }
+        ensures { result ≡ too_many self b m }
+    {
+        (64 < self.ops + 1) | ((4096 < self.bytes + b) | (4096 < self.reads + m))
+    }
 
-// One more operation, of b bytes to write and m to read.
-pub fn added(n: Counts, b: usize, m: usize) -> Counts
-    requires { Within n
-        × (b ≤ 65535)
-        × (m ≤ 65535) }
-    ensures { result ≡ added_to n b m }
-{
-    if n.large {
-        return n;
+    // One more operation, of b bytes to write and m to read.
+    #[tactic(auto, unfolding(crate::specs::Inner::Enter::added_to))]
+    pub fn added(self, b: usize, m: usize) -> Counts
+        requires { Within self
+            × (b ≤ 65535)
+            × (m ≤ 65535) }
+        ensures { result ≡ added_to self b m }
+    {
+        if self.large {
+            return self;
+        }
+        if self.is_too_many(b, m) {
+            return self.over();
+        }
+        Counts {
+            ops: self.ops + 1,
+            bytes: self.bytes + b,
+            reads: self.reads + m,
+            ..self
+        }
     }
-    if is_too_many(n, b, m) {
-        return over(n);
-    }
-    Counts {
-        large: false,
-        ops: n.ops + 1,
-        bytes: n.bytes + b,
-        reads: n.reads + m,
-        readings: n.readings,
-    }
-}
 
-pub fn one_more(n: Counts) -> Counts
-    requires { n.readings ≤ 8192 }
-    ensures { result ≡ one_reading n }
-{
-    Counts {
-        large: n.large,
-        ops: n.ops,
-        bytes: n.bytes,
-        reads: n.reads,
-        readings: n.readings + 1,
+    pub fn one_more(self) -> Counts
+        requires { self.readings ≤ 8192 }
+        ensures { result ≡ one_reading self }
+    {
+        Counts {
+            readings: self.readings + 1,
+            ..self
+        }
     }
 }
 
 // Stores, where the index is in range.
-pub fn put16(a: &mut [u16], at: usize, v: u16)
-    ensures { a.new ≡ set a.old at v }
-{
-    if at < a.len() {
-        a[at] = v;
-    }
-}
-
-pub fn put32(a: &mut [u32], at: usize, v: u32)
+pub fn put<T: Copy>(a: &mut [T], at: usize, v: T)
     ensures { a.new ≡ set a.old at v }
 {
     if at < a.len() {

@@ -1,4 +1,5 @@
 -- The loop over a chunk, and the end of the input.
+use Rattle.std.specs.Prelude.{Option, Some, None}
 use Prim.Native.Nat.{ℕ, zero, suc, ◌+◌, ◌-◌, ◌<◌, ◌≤◌, min}
 use native.Mathlib.Omega.{arith}
 use native.Mathlib.Nat.{suc-min-suc}
@@ -12,8 +13,8 @@ use Rattle.text_hex.specs.Text.{lines_after, last_line}
 use Rattle.text_hex.specs.Appended.{Appended}
 use Rattle.replay_calls.specs.Inner.Runs.{MOST_TEXT}
 use Rattle.replay_session.specs.Session.{printed_from}
-use Rattle.replay_session.specs.Inner.Bounded.{holds_call}
 use Rattle.replay_session.specs.Inner.Enter.{session_of}
+use Rattle.replay_session.specs.declared.Open.{Open}
 use Rattle.replay_state.specs.Inner.Rest.{Whole, rest, rest_of, digits_more, Sound, Went, begun_of, stopped_of, end_text}
 use Rattle.replay_state.specs.Inner.Fed.{FedAs, Finished}
 use Rattle.replay_state.specs.declared.Part.{Part}
@@ -107,32 +108,24 @@ module _ (v : Whole) (g : Sound v) where
       go (Long o) e = rw (last_some (v.text ++ digits_more o) (rw length-append (omega (arith, g.text))))
 
 -- after whole lines
-at_end : (v : Whole) → holds_call (session_of v.state.call v.state.slave v.lists) ≡ v.state.call.busy
-at_end v = go v.state.call.busy refl
-  where
-    go : (b : Bool)
-        → v.state.call.busy ≡ b
-        → holds_call (session_of v.state.call v.state.slave v.lists) ≡ v.state.call.busy
-    go true e = rw e
-    go false e = rw e
-
 ends_input : (v : Whole)
     → begun_of v.state.part ≡ false
-    → rest v [] ≡ end_text (stopped_of v.state.part) v.state.call.busy v.state.line
+    → rest v [] ≡ end_text (stopped_of v.state.part) v.state.call v.state.line
 unfolding lines_after printed_from
-ends_input v b = go v.state.part b
+ends_input v b = go v.state.part v.state.call b
   where
-    go : (p : Part)
+    go : (p : Part) (o : Option Open)
         → begun_of p ≡ false
-        → rest_of p v.state.line (session_of v.state.call v.state.slave v.lists) v.text []
-        ≡ end_text (stopped_of p) v.state.call.busy v.state.line
-    go Stopped e = refl
-    go (Text n) e = let z : n ≡ 0 = omega (arith, ltb-false 0 n e) in rw z (rw (at_end v))
-    go (Long o) e = absurd (false_true (sym e))
+        → rest_of p v.state.line (session_of o v.state.slave v.lists) v.text []
+        ≡ end_text (stopped_of p) o v.state.line
+    go Stopped o e = refl
+    go (Text n) None e = let z : n ≡ 0 = omega (arith, ltb-false 0 n e) in rw z
+    go (Text n) (Some o) e = let z : n ≡ 0 = omega (arith, ltb-false 0 n e) in rw z
+    go (Long d) o e = absurd (false_true (sym e))
 
 module _ (v : Whole) {out : List ℕ} {end : ℕ} where
   pub finished : (out₀ : List ℕ) → begun_of v.state.part ≡ false → 13 ≤ length out₀ → length out ≡ length out₀
-      → Appended out₀ 0 (end_text (stopped_of v.state.part) v.state.call.busy v.state.line) 13 out end → Finished v out end
+      → Appended out₀ 0 (end_text (stopped_of v.state.part) v.state.call v.state.line) 13 out end → Finished v out end
   finished out₀ b room size a = record { same = a.same ∙ sym (ends_input v b); made = omega (arith, a.room) }
 
   pub finished_line : {w : Whole} {out₀ out₁ : List ℕ} {at : ℕ}
@@ -142,7 +135,7 @@ module _ (v : Whole) {out : List ℕ} {end : ℕ} where
       → length out₁ ≡ length out₀
       → length out ≡ length out₁
       → Went v out₀ 0 (10 ∷ []) w out₁ at [] × (at ≤ 0 + MOST_TEXT) × (begun_of w.state.part ≡ false)
-      → Appended out₁ at (end_text (stopped_of w.state.part) w.state.call.busy w.state.line) 13 out end → Finished v out end
+      → Appended out₁ at (end_text (stopped_of w.state.part) w.state.call w.state.line) 13 out end → Finished v out end
   finished_line {w} {out₁ = out₁} {at = at} g b room size size₂ d a =
       record {
         same = a.same

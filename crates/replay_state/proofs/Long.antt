@@ -1,5 +1,5 @@
 -- Lines that are longer than what is kept of them: only whether a digit waits matters.
-use Rattle.std.specs.Prelude.{Some, None}
+use Rattle.std.specs.Prelude.{Option, Some, None}
 use Prim.Native.Nat.{ℕ, zero, suc, ◌+◌, ◌%◌, ◌<◌, ◌≤◌}
 use native.Mathlib.Omega.{arith}
 use mathlib.Core.List.{List, [], ◌∷◌, ◌++◌, append_assoc}
@@ -16,8 +16,6 @@ use Rattle.text_hex.proofs.Pairs.{digits_joined, length_values, written, unwritt
 use Rattle.replay_frames.specs.Frame.{bad, head_of, width, bytes_frame, frame_of}
 use Rattle.replay_frames.proofs.Lengths.{long_bad}
 use Rattle.replay_frames.specs.declared.Line.{Line}
-use Rattle.replay_frames.specs.declared.Head.{Head}
-use Rattle.replay_frames.specs.declared.Head.TheVariants.{Plain, Bytes}
 use Rattle.replay_session.specs.Session.{refusal}
 use Rattle.replay_session.specs.Inner.Bounded.{Held, next_held}
 use Rattle.replay_session.specs.Inner.Enter.{longest_kept}
@@ -62,7 +60,7 @@ bytes_none Line.Respond = refl
 bytes_none (Line.RespondAndFill b) = refl
 
 module _ (text : List ℕ) (size : length text ≡ longest_kept) where
-  module _ (l : Line) (e : head_of text ≡ Bytes l) where
+  module _ (l : Line) (e : head_of text ≡ Some l) where
     abbrev digits : List ℕ
     digits = drop (width l) text
 
@@ -151,9 +149,9 @@ module _ (text : List ℕ) (size : length text ≡ longest_kept) where
       first true b c z = rw z
       first false b c z = refl
 
-      go : (h : Head) → head_of text ≡ h → frame_of (text ++ (x ∷ r)) ≡ bad
-      go Plain e = rw (head_stays text (x ∷ r) (omega arith), e) (long_bad (text ++ (x ∷ r)) (rw length-append (omega arith)))
-      go (Bytes l) e = never l e (x ∷ r)
+      go : (h : Option Line) → head_of text ≡ h → frame_of (text ++ (x ∷ r)) ≡ bad
+      go None e = rw (head_stays text (x ∷ r) (omega arith), e) (long_bad (text ++ (x ∷ r)) (rw length-append (omega arith)))
+      go (Some l) e = never l e (x ∷ r)
           (digits_joined (drop (width l) text) (x ∷ r)
           ∙ first (all_digits (drop (width l) text)) (ltb (digit_of x) 16) (all_digits r) (rw e at f))
 
@@ -168,9 +166,9 @@ module _ (text : List ℕ) (size : length text ≡ longest_kept) where
         → (line : ℕ) (input : List ℕ) → from_line line h (text ++ u) input ≡ from_line line h (text ++ v) input
     as_good h u v pu pv par du dv line input = go (head_of text) refl
       where
-        go : (k : Head) → head_of text ≡ k → from_line line h (text ++ u) input ≡ from_line line h (text ++ v) input
-        go Plain e = let z : false ≡ true = rw e at long in absurd (false_true z)
-        go (Bytes l) e =
+        go : (k : Option Line) → head_of text ≡ k → from_line line h (text ++ u) input ≡ from_line line h (text ++ v) input
+        go None e = let z : false ≡ true = rw e at long in absurd (false_true z)
+        go (Some l) e =
             alike_begun line h input (text ++ u) (text ++ v) (rw length-append (omega arith)) (rw length-append (omega arith))
             (λ r. ap (λ (p : List ℕ). next_held h (frame_of p)) (append_assoc text u r)
             ∙ (same_digits l e h u v pu pv par du dv r
@@ -193,9 +191,9 @@ module _ (text : List ℕ) (size : length text ≡ longest_kept) where
         moved : (r : List ℕ) → ((text ++ u) ++ (x ∷ [])) ++ r ≡ text ++ (u ++ (x ∷ r))
         moved r = append_assoc (text ++ u) (x ∷ []) r ∙ append_assoc text u (x ∷ r)
 
-        go : (r : List ℕ) (k : Head) → head_of text ≡ k → frame_of (((text ++ u) ++ (x ∷ [])) ++ r) ≡ bad
-        go r Plain e = let z : false ≡ true = rw e at long in absurd (false_true z)
-        go r (Bytes l) e =
+        go : (r : List ℕ) (k : Option Line) → head_of text ≡ k → frame_of (((text ++ u) ++ (x ∷ [])) ++ r) ≡ bad
+        go r None e = let z : false ≡ true = rw e at long in absurd (false_true z)
+        go r (Some l) e =
             ap frame_of (moved r)
             ∙ never l e (u ++ (x ∷ r))
             (digits_joined (drop (width l) text) (u ++ (x ∷ r))
@@ -205,13 +203,13 @@ module _ (text : List ℕ) (size : length text ≡ longest_kept) where
     pub ends_odd : frame_of (text ++ digits_more true) ≡ bad
     ends_odd = go (head_of text) refl
       where
-        go : (k : Head) → head_of text ≡ k → frame_of (text ++ digits_more true) ≡ bad
-        go Plain e = let z : false ≡ true = rw e at long in absurd (false_true z)
-        go (Bytes l) e = waits l e (48 ∷ []) refl
+        go : (k : Option Line) → head_of text ≡ k → frame_of (text ++ digits_more true) ≡ bad
+        go None e = let z : false ≡ true = rw e at long in absurd (false_true z)
+        go (Some l) e = waits l e (48 ∷ []) refl
 
     -- and with none
     pub ends_even : (l : Line)
-        → head_of text ≡ Bytes l
+        → head_of text ≡ Some l
         → frame_of (text ++ digits_more false) ≡ bytes_frame l
         (Some (values (drop (width l) text ++ digits_more false)))
     unfolding all_digits digit_of

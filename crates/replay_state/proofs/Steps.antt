@@ -1,5 +1,5 @@
 -- Each line and each byte leads from what was to be printed to what is still to be printed.
-use Rattle.std.specs.Prelude.{Some}
+use Rattle.std.specs.Prelude.{Option, Some, None, Result, Ok, Err}
 use Prim.Native.Nat.{ℕ, ◌+◌, ◌-◌, ◌<◌, ◌≤◌}
 use native.Mathlib.Omega.{arith}
 use native.Mathlib.Numerals.{add-one}
@@ -17,13 +17,12 @@ use Rattle.text_hex.specs.Pairs.{all_digits, values}
 use Rattle.text_hex.specs.Appended.{Appended}
 use Rattle.replay_calls.specs.Inner.Runs.{MOST_TEXT, LOG_WORDS}
 use Rattle.replay_frames.specs.Frame.{frame_of, head_of, width, bytes_frame}
-use Rattle.replay_frames.specs.declared.Head.{Head}
-use Rattle.replay_frames.specs.declared.Head.TheVariants.{Plain, Bytes}
 use Rattle.replay_session.specs.Session.{Next, going, malformed, refusal, line_after, onward, printed_from}
 use Rattle.replay_session.specs.Inner.Bounded.{Held, next_held, holds_call}
-use Rattle.replay_session.specs.Inner.Enter.{Arrays, session_of, Lent, EnteredAs, longest_kept}
+use Rattle.replay_frames.specs.declared.Line.{Line}
+use Rattle.replay_session.specs.Inner.Enter.{Arrays, session_of, Lent, EnteredAs, longest_kept, counts_of, not_entered}
 use Rattle.replay_session.specs.declared.Entered.{Entered}
-use Rattle.replay_session.specs.declared.Entered.TheVariants.{Going, Malformed}
+use Rattle.replay_session.specs.declared.Malformed.{Malformed}
 use Rattle.replay_session.proofs.Enters.{enters_wide, refused, closed_small}
 use Rattle.replay_state.specs.Inner.Rest.{Whole, rest, from_line, digits_more, long_line, Sound, Went, EndedAs}
 use Rattle.replay_state.specs.Inner.Rest.{TurnedTo, KeptBy, KeptAs, long_entered, LongEndedAs, stopped_at}
@@ -81,7 +80,7 @@ module _ (s : State) (t : List ℕ) (a : Arrays) (b l : List ℕ) (g : Sound (re
 
     -- a line has ended: what its frame leads to
     module _ (a' : Arrays) (b' l' : List ℕ) (z : length b' ≡ 4096) (y : length l' ≡ LOG_WORDS) (before after : List ℕ) where
-      pub ends : (to : Next Held) (e : Entered) (out₁ out₂ : List ℕ) (r : Turn)
+      pub ends : (to : Next Held) (e : Result Entered Malformed) (out₁ out₂ : List ℕ) (r : Turn)
           → EnteredAs e a' out at out₁ to
           → EndedAs s.line e at out₁ out₂ r
           → ((input : List ℕ)
@@ -91,18 +90,18 @@ module _ (s : State) (t : List ℕ) (a : Arrays) (b l : List ℕ) (g : Sound (re
           → Went (reader s t a b l) out at before (reader r.state t a' b' l') out₂ r.made after
           × (r.made ≤ at + MOST_TEXT)
           × (begun_of r.state.part ≡ false)
-      ends malformed Malformed out₁ out₂ r ea d f = (
+      ends malformed (Err e) out₁ out₂ r ea d f = (
         stops before after t a' b' l' out₂ r g.text (record { lent = ea.lent; buffer = z; log = y })
             (d.0, record { same = d.1.same ∙ rw (ea.text.same, append-nil); room = d.1.room }) f,
         omega (arith, d.1.room),
         rw d.0,
       )
-      ends malformed (Going call slave end) out₁ out₂ r ea d f =
-          let x : going (session_of call slave a') [] ≡ malformed = ea.same in absurd (differ x)
-      ends (going u w) Malformed out₁ out₂ r ea d f = let x : malformed ≡ going u w = ea.same in absurd (differ (sym x))
-      ends (going u w) (Going call slave end) out₁ out₂ r ea d f =
-          let x : going (session_of call slave a') w ≡ going u w = ea.same in
-          let k : session_of call slave a' ≡ u = cc in
+      ends malformed (Ok e) out₁ out₂ r ea d f =
+          let x : going (session_of e.call e.slave a') [] ≡ malformed = ea.same in absurd (differ x)
+      ends (going u w) (Err e) out₁ out₂ r ea d f = let x : malformed ≡ going u w = ea.same in absurd (differ (sym x))
+      ends (going u w) (Ok e) out₁ out₂ r ea d f =
+          let x : going (session_of e.call e.slave a') w ≡ going u w = ea.same in
+          let k : session_of e.call e.slave a' ≡ u = cc in
           rw (d.0, d.1) (
             record {
               same = λ input. ap (λ (v : List ℕ). take at out ++ v) (f input)
@@ -118,7 +117,7 @@ module _ (s : State) (t : List ℕ) (a : Arrays) (b l : List ℕ) (g : Sound (re
         → (a' : Arrays) (b' l' : List ℕ)
         → length b' ≡ 4096
         → length l' ≡ LOG_WORDS
-        → (out₁ out₂ : List ℕ) (e : Entered) (r : Turn)
+        → (out₁ out₂ : List ℕ) (e : Result Entered Malformed) (r : Turn)
         → EnteredAs e a' out at out₁ (next_held session (frame_of (take n t))) → EndedAs s.line e at out₁ out₂ r
         → Went (reader s t a b l) out at (10 ∷ []) (reader r.state t a' b' l') out₂ r.made []
         × (r.made ≤ at + MOST_TEXT)
@@ -135,7 +134,7 @@ module _ (s : State) (t : List ℕ) (a : Arrays) (b l : List ℕ) (g : Sound (re
         → (a' : Arrays) (b' l' : List ℕ)
         → length b' ≡ 4096
         → length l' ≡ LOG_WORDS
-        → (out₁ out₂ : List ℕ) (e : Entered) (r : Turn)
+        → (out₁ out₂ : List ℕ) (e : Result Entered Malformed) (r : Turn)
         → EnteredAs e a' out at out₁ (next_held session (frame_of (take n (drop i chunk)))) → EndedAs s.line e at out₁ out₂ r
         → Went (reader s t a b l) out at (drop i chunk) (reader r.state t a' b' l') out₂ r.made
         (drop (i + n + 1) chunk)
@@ -301,22 +300,22 @@ module _ (s : State) (t : List ℕ) (a : Arrays) (b l : List ℕ) (g : Sound (re
             × (r.made ≤ at + MOST_TEXT)
             × (begun_of r.state.part ≡ false)
         go true e k =
-            ends a b l g.buffer g.log (10 ∷ []) [] malformed Malformed out out' r (refused g.lent) k
+            ends a b l g.buffer g.log (10 ∷ []) [] malformed not_entered out out' r (refused g.lent) k
             (λ input. rw (e, ends_odd t g.text (rw e at g.part), bad_next session))
         go false e k = by (head_of t) refl k
           where
             long : long_line t ≡ true
             long = rw e at g.part
 
-            by : (h : Head) → head_of t ≡ h → EndedAs s.line (long_entered (head_of t) s at) at out out' r
+            by : (h : Option Line) → head_of t ≡ h → EndedAs s.line (long_entered (head_of t) s at) at out out' r
                 → Went (reader s t a b l) out at (10 ∷ []) (reader r.state t a b l) out' r.made []
                 × (r.made ≤ at + MOST_TEXT)
                 × (begun_of r.state.part ≡ false)
-            by Plain h q = let z : false ≡ true = rw h at long in absurd (false_true z)
-            by (Bytes w) h q =
+            by None h q = let z : false ≡ true = rw h at long in absurd (false_true z)
+            by (Some w) h q =
                 ends a b l g.buffer g.log (10 ∷ []) []
                 (next_held session (bytes_frame w (Some (values (drop (width w) t ++ digits_more false)))))
-                (long_entered (Bytes w) s at) out out' r
+                (long_entered (Some w) s at) out out' r
                 (enters_wide s.call s.slave a at out g.small g.lent
                 (values (drop (width w) t ++ digits_more false))
                 (many t g.text w h (48 ∷ 48 ∷ []) (omega arith)) w)

@@ -6,7 +6,6 @@ ghost use Rattle.replay_state.specs.Inner.Rest.{stopped_of, begun_of, end_text};
 ghost use Rattle.replay_state.specs.Inner.Fed.{start_state};
 
 use super::{Part, State, fresh_slave};
-use replay_session::enter::closed;
 use text_hex::print;
 
 // The reader before the first byte.
@@ -16,7 +15,7 @@ pub fn start() -> State
     State {
         line: 1,
         part: Part::Text(0),
-        call: closed(),
+        call: None,
         slave: fresh_slave(),
     }
 }
@@ -25,20 +24,14 @@ pub fn start() -> State
 pub fn is_stopped(s: State) -> bool
     ensures { result ≡ stopped_of s.part }
 {
-    let p = s.part;
-    match p {
-        Part::Stopped => true,
-        Part::Text(_) => false,
-        Part::Long(_) => false,
-    }
+    matches!(s.part, Part::Stopped)
 }
 
 // Whether the input so far ends inside a line.
 pub fn is_begun(s: State) -> bool
     ensures { result ≡ begun_of s.part }
 {
-    let p = s.part;
-    match p {
+    match s.part {
         Part::Stopped => false,
         Part::Text(n) => 0 < n,
         Part::Long(_) => true,
@@ -49,15 +42,11 @@ pub fn is_begun(s: State) -> bool
 pub fn end_input(s: State, out: &mut [u8], at: usize) -> usize
     requires { at + 13 ≤ length out.old }
     ensures { Appended out.old at
-        (end_text (stopped_of s.part) s.call.busy s.line)
+        (end_text (stopped_of s.part) s.call s.line)
         13 out.new result }
 {
-    if is_stopped(s) {
+    if is_stopped(s) || s.call.is_none() {
         return at;
     }
-    let call = s.call;
-    if call.busy {
-        return print::push_answer(out, at, 21, s.line);
-    }
-    at
+    print::push_answer(out, at, 21, s.line)
 }

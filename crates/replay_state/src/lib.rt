@@ -26,7 +26,7 @@ pub const LONGEST_KEPT: usize = 8198;
 pub struct State {
     pub line: u32,
     pub part: Part,
-    pub call: Open,
+    pub call: Option<Open>,
     pub slave: SlaveState,
 }
 

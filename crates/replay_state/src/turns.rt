@@ -10,16 +10,16 @@ ghost use Rattle.replay_state.specs.Inner.Rest.{EndedAs, TurnedTo, KeptAs, LongE
 ghost use Rattle.replay_state.specs.Inner.Rest.{stopped_at, with_part};
 
 use super::{LONGEST_KEPT, Part, State, Turn, fresh_slave};
-use replay_frames::{Head, head_of, width};
-use replay_session::Entered;
-use replay_session::enter::{closed, enter_wide};
+use replay_frames::{head_of, width};
+use replay_session::enter::enter_wide;
+use replay_session::{Entered, Malformed};
 use text_hex::digits::{all_digits, is_digit};
 use text_hex::print;
 
 pub fn next_line(line: u32) -> u32
     ensures { result ≡ line_after line }
 {
-    if line < 4294967295 { line + 1 } else { line }
+    line.saturating_add(1)
 }
 
 // A malformed line: its number is printed, and nothing more is read.
@@ -33,28 +33,28 @@ fn stop(line: u32, out: &mut [u8], at: usize) -> Turn
         state: State {
             line,
             part: Part::Stopped,
-            call: closed(),
+            call: None,
             slave: fresh_slave(),
         },
         made,
     }
 }
 
-pub fn end_line(line: u32, e: Entered, out: &mut [u8], at: usize) -> Turn
+pub fn end_line(line: u32, e: Result<Entered, Malformed>, out: &mut [u8], at: usize) -> Turn
     requires { at + MOST_TEXT ≤ length out.old }
     ensures { EndedAs line e at out.old out.new result }
 {
     match e {
-        Entered::Going(call, slave, end) => Turn {
+        Ok(e) => Turn {
             state: State {
                 line: next_line(line),
                 part: Part::Text(0),
-                call,
-                slave,
+                call: e.call,
+                slave: e.slave,
             },
-            made: end,
+            made: e.end,
         },
-        Entered::Malformed => stop(line, out, at),
+        Err(_) => stop(line, out, at),
     }
 }
 
@@ -62,15 +62,8 @@ pub fn end_line(line: u32, e: Entered, out: &mut [u8], at: usize) -> Turn
 pub fn go_on(s: State, part: Part, at: usize) -> Turn
     ensures { result ≡ record { state = with_part s part; made = at } }
 {
-    let call = s.call;
-    let slave = s.slave;
     Turn {
-        state: State {
-            line: s.line,
-            part,
-            call,
-            slave,
-        },
+        state: State { part, ..s },
         made: at,
     }
 }
@@ -80,8 +73,8 @@ fn is_long(text: &[u8]) -> bool
     ensures { result ≡ long_line text.now }
 {
     match head_of(text) {
-        Head::Plain => false,
-        Head::Bytes(l) => {
+        None => false,
+        Some(l) => {
             let w = width(l);
             all_digits(&text[w..])
         }
@@ -135,11 +128,7 @@ pub fn end_long(odd: bool, s: State, text: &[u8], out: &mut [u8], at: usize) -> 
         return stop(s.line, out, at);
     }
     match head_of(text) {
-        Head::Plain => stop(s.line, out, at),
-        Head::Bytes(l) => {
-            let call = s.call;
-            let slave = s.slave;
-            end_line(s.line, enter_wide(l, call, slave, at), out, at)
-        }
+        None => stop(s.line, out, at),
+        Some(l) => end_line(s.line, enter_wide(l, s.call, s.slave, at), out, at),
     }
 }

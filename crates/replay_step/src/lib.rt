@@ -38,15 +38,21 @@ pub fn line_feed(
         × (result.made ≤ at + MOST_TEXT)
         × (begun_of result.state.part ≡ false) }
 {
-    let p = s.part;
-    match p {
+    match s.part {
         Part::Stopped => Turn { state: s, made: at },
         Part::Text(n) => {
-            let call = s.call;
-            let slave = s.slave;
-            let line = &text[..n];
             let e = enter_line(
-                line, call, slave, kinds, lengths, bytes, readings, buffer, log, out, at,
+                &text[..n],
+                s.call,
+                s.slave,
+                kinds,
+                lengths,
+                bytes,
+                readings,
+                buffer,
+                log,
+                out,
+                at,
             );
             end_line(s.line, e, out, at)
         }
@@ -82,14 +88,12 @@ fn end_or_bytes(
         out.new result }
 {
     if chunk[i] == 10 {
-        let used = i + 1;
         let t = line_feed(
             s, text, kinds, lengths, bytes, readings, buffer, log, out, at,
         );
-        let state = t.state;
         return Fed {
-            state,
-            used,
+            state: t.state,
+            used: i + 1,
             made: t.made,
         };
     }
@@ -123,26 +127,29 @@ pub fn line_or_bytes(
         readings.new buffer.new log.new)
         out.new result }
 {
-    let p = s.part;
-    let n = fresh_line(p, chunk, i);
-    if n < 8199 {
-        let call = s.call;
-        let slave = s.slave;
-        let end = i + n;
-        let used = end + 1;
-        let line = &chunk[i..end];
-        let e = enter_line(
-            line, call, slave, kinds, lengths, bytes, readings, buffer, log, out, at,
+    let Some(n) = fresh_line(s.part, chunk, i) else {
+        return end_or_bytes(
+            chunk, i, s, text, kinds, lengths, bytes, readings, buffer, log, out, at,
         );
-        let t = end_line(s.line, e, out, at);
-        let state = t.state;
-        return Fed {
-            state,
-            used,
-            made: t.made,
-        };
+    };
+    let end = i + n;
+    let e = enter_line(
+        &chunk[i..end],
+        s.call,
+        s.slave,
+        kinds,
+        lengths,
+        bytes,
+        readings,
+        buffer,
+        log,
+        out,
+        at,
+    );
+    let t = end_line(s.line, e, out, at);
+    Fed {
+        state: t.state,
+        used: end + 1,
+        made: t.made,
     }
-    end_or_bytes(
-        chunk, i, s, text, kinds, lengths, bytes, readings, buffer, log, out, at,
-    )
 }

@@ -6,6 +6,7 @@ use Rattle.slave.specs.declared.SlaveState.{SlaveState}
 use Rattle.text_hex.specs.Appended.{Appended}
 use Rattle.replay_calls.specs.Calls.{Listed, replayed, transfer_of, buffer_of, lists_read, has_buffer, outcome_of, outcome_text}
 use Rattle.slave.specs.I2cSlave.{listen_call}
+use Rattle.replay_calls.specs.declared.form.Form.{Form}
 use Rattle.replay_calls.specs.declared.Call.{Call}
 use Rattle.replay_calls.specs.declared.Done.{Done}
 
@@ -23,7 +24,7 @@ pub record Runs (buffered : Bool) (o : Outcome SlaveState Reply) (before : List 
   pub slave : r.slave ≡ o.state
 
 -- a transfer has left its outcome
-abbrev pub Transferred : ℕ → ℕ → Listed → List ℕ → List ℕ → ℕ → List ℕ → ℕ → Type 0
+abbrev pub Transferred : Form → ℕ → Listed → List ℕ → List ℕ → ℕ → List ℕ → ℕ → Type 0
 Transferred form address l readings before at after end =
     Appended before at (outcome_text (lists_read l.kinds)
     (replayed (transfer_of form address l) readings (buffer_of form l) tt))

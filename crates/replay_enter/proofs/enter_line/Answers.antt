@@ -7,14 +7,14 @@ use Rattle.replay_frames.proofs.Lengths.{head_fits, behind}
 use Rattle.replay_enter.proofs.enter_line.Goals as goal
 
 pub slice_bounds-enter_pairs-count : goal.slice_bounds-enter_pairs-count
-slice_bounds-enter_pairs-count c = omega (arith, head_fits _ _ (sym c.head_of.ensures ∙ c.in-Bytes.is), c.width-w.ensures)
+slice_bounds-enter_pairs-count c = omega (arith, head_fits _ _ (sym c.head_of.ensures ∙ c.in-Some.is), c.width-w.ensures)
 
-pub returns-in-Bytes : goal.returns-in-Bytes
-returns-in-Bytes c = let a = c.args in
-    rw (sym c.head_of.ensures ∙ c.in-Bytes.is)
+pub returns-in-Some : goal.returns-in-Some
+returns-in-Some c = let a = c.args in
+    rw (sym c.head_of.ensures ∙ c.in-Some.is)
     (rw (behind a.line.now c.width-w.result, c.width-w.ensures)
     at (c.enter_pairs.ensures a.readings.now a.out.now c.requires.1))
 
 pub slice_bounds-enter_pairs-start : goal.slice_bounds-enter_pairs-start
 slice_bounds-enter_pairs-start c =
-    omega (arith, head_fits _ _ (sym c.head_of.ensures ∙ c.in-Bytes.is), c.width-w.ensures)
+    omega (arith, head_fits _ _ (sym c.head_of.ensures ∙ c.in-Some.is), c.width-w.ensures)

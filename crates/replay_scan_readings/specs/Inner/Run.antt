@@ -67,9 +67,10 @@ pub record Run (chunk : List ℕ) (i first number : ℕ) (rs₀ : List ℕ) (use
 
 -- ---- the reader before and behind a run
 
-abbrev pub ready_by : Part → Open → Bool
+abbrev pub ready_by : Part → Option Open → Bool
 ready_by Stopped o = false
-ready_by (Text n) o = eqb n 0 && (o.busy && complete o.wants)
+ready_by (Text n) None = false
+ready_by (Text n) (Some o) = eqb n 0 && complete o.wants
 ready_by (Long odd) o = false
 
 abbrev pub ready_of : State → Bool
@@ -78,13 +79,13 @@ ready_of s = ready_by s.part s.call
 abbrev pub with_readings : Counts → ℕ → Counts
 with_readings n count = record { large = n.large; ops = n.ops; bytes = n.bytes; reads = n.reads; readings = count }
 
+-- the open call with so many readings, after which it takes no operations
+abbrev pub reopened : Option Open → ℕ → Option Open
+reopened None count = None
+reopened (Some o) count = Some (opened o.call Nothing (with_readings o.counts count))
+
 abbrev pub state_after : State → Ran → State
-state_after s r = record {
-  line = r.line;
-  part = Text 0;
-  call = opened s.call.call Nothing (with_readings s.call.counts r.count);
-  slave = s.slave;
-}
+state_after s r = record { line = r.line; part = Text 0; call = reopened s.call r.count; slave = s.slave }
 
 -- where nothing was read, nothing was stored
 pub record RanAs (s : State) (chunk : List ℕ) (i : ℕ) (rs₀ rs : List ℕ) (r : Ran) : Type 0 where

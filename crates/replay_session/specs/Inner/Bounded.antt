@@ -1,6 +1,6 @@
 -- The session in bounded space: operations beyond the limits of number 20 are not kept, and their call is not run but
 -- refused. That it prints the same, since the call's driver refuses them too, is proved (proofs/Bound.antt); contracts cite it.
-use Rattle.std.specs.Prelude.{ℕ, ◌+◌, Bool, true, false, ◌||◌, List, [], ◌∷◌, ◌++◌, ltb, length, if◌then◌else◌}
+use Rattle.std.specs.Prelude.{ℕ, ◌+◌, Bool, true, false, ◌||◌, Option, Some, None, List, [], ◌∷◌, ◌++◌, ltb, length, if◌then◌else◌}
 use Rattle.master.specs.Operations.{Operation, writes, reads, READ, WRITE, MOST_BYTES, MOST_OPERATIONS}
 use Rattle.slave.specs.declared.SlaveState.{SlaveState}
 use Rattle.text_hex.specs.Print.{answer_text}
@@ -10,8 +10,6 @@ use Rattle.replay_frames.specs.Frame.{Frame, opens, write, read, reading, run, b
 use Rattle.replay_session.specs.Session.{Next, going, malformed, wants_of, read_taken, write_taken, complete}
 use Rattle.replay_session.specs.declared.Wants.{Wants}
 use Rattle.replay_session.specs.declared.Wants.TheVariants.{Nothing}
-use Rattle.replay_session.specs.declared.Took.{Took}
-use Rattle.replay_session.specs.declared.Took.TheVariants.{Now, Never}
 
 -- more than 64 operations, or more than 4,096 bytes of one direction
 abbrev pub over : Listed → Bool
@@ -37,9 +35,9 @@ pub data Held : Type 0 where
   idle : SlaveState → Held
   within : SlaveState → Call → Wants → Kept → List ℕ → Held
 
-abbrev pub operation : SlaveState → Call → Kept → List ℕ → Took → Next Held
-operation s c k rs Never = malformed
-operation s c k rs (Now w) = going (within s c w k rs) []
+abbrev pub operation : SlaveState → Call → Kept → List ℕ → Option Wants → Next Held
+operation s c k rs None = malformed
+operation s c k rs (Some w) = going (within s c w k rs) []
 
 abbrev pub kept_text : Call → Kept → List ℕ → SlaveState → List ℕ
 kept_text c large rs s = answer_text 20 0

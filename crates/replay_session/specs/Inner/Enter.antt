@@ -1,5 +1,5 @@
 -- How the code's values stand for frames and sessions, and what entering a frame does. Contracts of inner functions cite this.
-use Rattle.std.specs.Prelude.{ℕ, ◌+◌, ◌≤◌, Bool, true, false, ◌||◌, List, [], ◌≡◌, ltb, length, take, if◌then◌else◌}
+use Rattle.std.specs.Prelude.{ℕ, ◌+◌, ◌≤◌, Bool, true, false, ◌||◌, Option, Some, None, Result, Ok, Err, List, [], ◌≡◌, ltb, length, take, if◌then◌else◌}
 use Rattle.slave.specs.declared.SlaveState.{SlaveState}
 use Rattle.text_hex.specs.Appended.{Appended}
 use Rattle.replay_calls.specs.Calls.{MOST_READINGS, listed}
@@ -13,13 +13,10 @@ use Rattle.replay_session.specs.Session.{Next, going, malformed, wants_of, read_
 use Rattle.replay_session.specs.Inner.Bounded.{Kept, kept, large, Held, idle, within, kept_text, kept_slave, next_held}
 use Rattle.replay_session.specs.declared.Wants.{Wants}
 use Rattle.replay_session.specs.declared.Wants.TheVariants.{Nothing}
-use Rattle.replay_session.specs.declared.Took.{Took}
-use Rattle.replay_session.specs.declared.Took.TheVariants.{Now, Never}
-use Rattle.replay_session.specs.declared.Taken.{Taken}
 use Rattle.replay_session.specs.declared.Counts.{Counts}
 use Rattle.replay_session.specs.declared.Open.{Open}
 use Rattle.replay_session.specs.declared.Entered.{Entered}
-use Rattle.replay_session.specs.declared.Entered.TheVariants.{Going, Malformed}
+use Rattle.replay_session.specs.declared.Malformed.{Malformed}
 use Rattle.replay_frames.specs.declared.Line.{Line}
 
 -- ---- the session that the open call and the lent slices are
@@ -37,15 +34,17 @@ abbrev pub kept_of : Counts → Arrays → Kept
 kept_of n a = if n.large then large else kept
     (listed (take n.ops a.kinds) (take n.ops a.lengths) (take n.bytes a.bytes) n.reads)
 
-abbrev pub session_of : Open → SlaveState → Arrays → Held
-session_of o s a = if o.busy then within s o.call o.wants (kept_of o.counts a)
-    (take o.counts.readings a.readings) else idle s
+abbrev pub session_of : Option Open → SlaveState → Arrays → Held
+session_of None s a = idle s
+session_of (Some o) s a = within s o.call o.wants (kept_of o.counts a) (take o.counts.readings a.readings)
 
 abbrev pub no_counts : Counts
 no_counts = record { large = false; ops = 0; bytes = 0; reads = 0; readings = 0 }
 
-abbrev pub no_call : Open
-no_call = record { busy = false; call = Respond; wants = Nothing; counts = no_counts }
+-- with no call open nothing is kept
+abbrev pub counts_of : Option Open → Counts
+counts_of None = no_counts
+counts_of (Some o) = o.counts
 
 pub record Within (n : Counts) : Type 0 where
   pub ops : n.ops ≤ 64
@@ -53,10 +52,8 @@ pub record Within (n : Counts) : Type 0 where
   pub reads : n.reads ≤ 4096
   pub readings : n.readings ≤ MOST_READINGS
 
--- with no call open nothing is kept
-pub record Small (o : Open) : Type 0 where
-  pub counts : Within o.counts
-  pub none : o.busy ≡ false → o.counts ≡ no_counts
+pub record Small (o : Option Open) : Type 0 where
+  pub counts : Within (counts_of o)
 
 -- the lent slices' lengths
 pub record Lent (a : Arrays) : Type 0 where
@@ -81,19 +78,19 @@ abbrev pub text_of : Next Held → List ℕ
 text_of (going h t) = t
 text_of malformed = []
 
-abbrev pub next_of : Entered → Arrays → List ℕ → Next Held
-next_of (Going o s end) a text = going (session_of o s a) text
-next_of Malformed a text = malformed
+abbrev pub next_of : Result Entered Malformed → Arrays → List ℕ → Next Held
+next_of (Ok e) a text = going (session_of e.call e.slave a) text
+next_of (Err e) a text = malformed
 
-abbrev pub end_of : Entered → ℕ → ℕ
-end_of (Going o s end) at = end
-end_of Malformed at = at
+abbrev pub end_of : Result Entered Malformed → ℕ → ℕ
+end_of (Ok e) at = e.end
+end_of (Err e) at = at
 
-abbrev pub SmallAfter : Entered → Type 0
-SmallAfter (Going o s end) = Small o
-SmallAfter Malformed = Unit {0}
+abbrev pub SmallAfter : Result Entered Malformed → Type 0
+SmallAfter (Ok e) = Small e.call
+SmallAfter (Err e) = Unit {0}
 
-pub record EnteredAs (e : Entered) (a : Arrays) (out₀ : List ℕ) (at : ℕ) (out : List ℕ) (to : Next Held) : Type 0 where
+pub record EnteredAs (e : Result Entered Malformed) (a : Arrays) (out₀ : List ℕ) (at : ℕ) (out : List ℕ) (to : Next Held) : Type 0 where
   pub same : next_of e a (text_of to) ≡ to
   pub text : Appended out₀ at (text_of to) MOST_TEXT out (end_of e at)
   pub small : SmallAfter e
@@ -109,7 +106,13 @@ pub record CalledAs (o : Open) (s : SlaveState) (a : Arrays) (out₀ : List ℕ)
 -- ---- the code's small steps
 
 abbrev pub opened : Call → Wants → Counts → Open
-opened c w n = record { busy = true; call = c; wants = w; counts = n }
+opened c w n = record { call = c; wants = w; counts = n }
+
+abbrev pub entered : Option Open → SlaveState → ℕ → Result Entered Malformed
+entered o s at = Ok (record { call = o; slave = s; end = at })
+
+abbrev pub not_entered : Result Entered Malformed
+not_entered = Err (record { })
 
 abbrev pub over_of : Counts → Counts
 over_of n = record { large = true; ops = n.ops; bytes = n.bytes; reads = n.reads; readings = n.readings }
@@ -130,42 +133,45 @@ added_to n b m =
       readings = n.readings;
     })
 
-abbrev pub call_entered : Call → Open → SlaveState → ℕ → Entered
-call_entered c o s at = if o.busy then Malformed else Going (opened c (wants_of c) no_counts) s at
+abbrev pub call_entered : Call → Option Open → SlaveState → ℕ → Result Entered Malformed
+call_entered c (Some o) s at = not_entered
+call_entered c None s at = entered (Some (opened c (wants_of c) no_counts)) s at
 
-abbrev pub took_entered : Call → Counts → SlaveState → ℕ → Took → Entered
-took_entered c n s at Never = Malformed
-took_entered c n s at (Now w) = Going (opened c w n) s at
+-- the open call after an operation that may come now, or not
+abbrev pub taken_as : Call → Counts → Option Wants → Option Open
+taken_as c n None = None
+taken_as c n (Some w) = Some (opened c w n)
 
-abbrev pub read_entered : ℕ → Open → SlaveState → ℕ → Entered
-read_entered m o s at = if o.busy then took_entered o.call (added_to o.counts 0 m) s at (read_taken o.wants) else Malformed
+-- a frame that comes in order or not, with the open call after it
+abbrev pub bytes_entered : Option Open → SlaveState → ℕ → Result Entered Malformed
+bytes_entered None s at = not_entered
+bytes_entered (Some o) s at = entered (Some o) s at
 
--- whether a line of bytes comes in order, and the call and what it wants after it
-abbrev pub taken_as : Call → Took → Taken
-taken_as c Never = Taken.Never
-taken_as c (Now w) = Taken.Now c w
+abbrev pub read_entered : ℕ → Option Open → SlaveState → ℕ → Result Entered Malformed
+read_entered m None s at = not_entered
+read_entered m (Some o) s at = bytes_entered (taken_as o.call (added_to o.counts 0 m) (read_taken o.wants)) s at
 
-abbrev pub taken_by : Line → Open → Taken
-taken_by Line.Write o = if o.busy then taken_as o.call (write_taken o.wants) else Taken.Never
-taken_by Line.Respond o = if o.busy then Taken.Never else Taken.Now Respond Nothing
-taken_by (Line.RespondAndFill b) o = if o.busy then Taken.Never else Taken.Now (RespondAndFill b) Nothing
-
-abbrev pub bytes_entered : Taken → Counts → SlaveState → ℕ → Entered
-bytes_entered Taken.Never n s at = Malformed
-bytes_entered (Taken.Now c w) n s at = Going (opened c w n) s at
+-- the open call after a line of bytes, with its counts then
+abbrev pub taken_by : Line → Option Open → Counts → Option Open
+taken_by Line.Write None n = None
+taken_by Line.Write (Some o) n = taken_as o.call n (write_taken o.wants)
+taken_by Line.Respond None n = Some (opened Respond Nothing n)
+taken_by Line.Respond (Some o) n = None
+taken_by (Line.RespondAndFill b) None n = Some (opened (RespondAndFill b) Nothing n)
+taken_by (Line.RespondAndFill b) (Some o) n = None
 
 abbrev pub one_reading : Counts → Counts
 one_reading n = record { large = n.large; ops = n.ops; bytes = n.bytes; reads = n.reads; readings = n.readings + 1 }
 
-abbrev pub reading_entered : Open → SlaveState → ℕ → Entered
-reading_entered o s at =
-    if o.busy then (if complete o.wants then
-    (if ltb o.counts.readings MOST_READINGS then Going (opened o.call Nothing (one_reading o.counts))
-    s at
-    else Malformed) else Malformed) else Malformed
+abbrev pub reading_entered : Option Open → SlaveState → ℕ → Result Entered Malformed
+reading_entered None s at = not_entered
+reading_entered (Some o) s at =
+    if complete o.wants then
+    (if ltb o.counts.readings MOST_READINGS then entered (Some (opened o.call Nothing (one_reading o.counts))) s at else not_entered)
+    else not_entered
 
 -- a line of the pairs of digits `ds` was entered, whatever the readings are and whatever was printed before
-abbrev pub PairsAs : Line → List ℕ → Open → SlaveState → List ℕ → List ℕ → List ℕ → List ℕ → List ℕ → List ℕ → ℕ → Entered → Type 0
+abbrev pub PairsAs : Line → List ℕ → Option Open → SlaveState → List ℕ → List ℕ → List ℕ → List ℕ → List ℕ → List ℕ → ℕ → Result Entered Malformed → Type 0
 PairsAs l ds o s ks ls bs ks' ls' bs' at r =
     (rs out : List ℕ)
     → Lent (arrays ks ls bs rs)

@@ -1,13 +1,12 @@
 -- What is fed and finished. The contracts of `feed` and `finish` cite this; `every_split` is over them.
-use Rattle.std.specs.Prelude.{ℕ, ◌≤◌, ◌<◌, List, [], ◌++◌, ◌≡◌, length, take, drop}
+use Rattle.std.specs.Prelude.{ℕ, None, ◌≤◌, ◌<◌, List, [], ◌++◌, ◌≡◌, length, take, drop}
 use Rattle.replay_session.specs.Session.{fresh}
-use Rattle.replay_session.specs.Inner.Enter.{no_call}
 use Rattle.replay_state.specs.Inner.Rest.{Whole, rest, Sound}
 use Rattle.replay_state.specs.declared.Part.TheVariants.{Text}
 use Rattle.replay_state.specs.declared.State.{State}
 
 abbrev pub start_state : State
-start_state = record { line = 1; part = Text 0; call = no_call; slave = fresh }
+start_state = record { line = 1; part = Text 0; call = None; slave = fresh }
 
 -- `feed`: some of the chunk was read, and at least a byte if there was one
 pub record FedAs (v : Whole) (chunk : List ℕ) (w : Whole) (out : List ℕ) (n end : ℕ) : Type 0 where

@@ -1,19 +1,19 @@
 -- What is still printed from a state of the reader on. Contracts cite this; that from
 -- the start it is what Session says, `every_split` shows (proofs/EverySplit.antt).
-use Rattle.std.specs.Prelude.{ℕ, ◌+◌, ◌≤◌, ◌<◌, List, [], ◌∷◌, ◌++◌, Bool, true, false, ◌&&◌, ◌≡◌, ltb, length, take, drop, if◌then◌else◌}
+use Rattle.std.specs.Prelude.{ℕ, ◌+◌, ◌≤◌, ◌<◌, List, [], ◌∷◌, ◌++◌, Bool, true, false, ◌&&◌, ◌≡◌, Option, Some, None, Result, Ok, Err, ltb, length, take, drop, if◌then◌else◌}
 use Rattle.text_hex.specs.Text.{lines_after, digit_of}
 use Rattle.text_hex.specs.Pairs.{all_digits}
 use Rattle.text_hex.specs.Appended.{Appended}
 use Rattle.replay_calls.specs.Inner.Runs.{LOG_WORDS}
 use Rattle.replay_frames.specs.Frame.{head_of, width}
-use Rattle.replay_frames.specs.declared.Head.{Head}
-use Rattle.replay_frames.specs.declared.Head.TheVariants.{Plain, Bytes}
+use Rattle.replay_frames.specs.declared.Line.{Line}
 use Rattle.replay_session.specs.Session.{refusal, line_after, printed_from, fresh}
 use Rattle.replay_session.specs.Inner.Bounded.{Held, next_held, holds_call}
-use Rattle.replay_session.specs.Inner.Enter.{Arrays, arrays, session_of, Small, Lent, longest_kept, no_call, over_of}
+use Rattle.replay_session.specs.Inner.Enter.{Arrays, arrays, session_of, Small, Lent, longest_kept, counts_of, over_of, not_entered}
 use Rattle.replay_session.specs.Inner.Enter.{taken_by, bytes_entered}
 use Rattle.replay_session.specs.declared.Entered.{Entered}
-use Rattle.replay_session.specs.declared.Entered.TheVariants.{Going, Malformed}
+use Rattle.replay_session.specs.declared.Open.{Open}
+use Rattle.replay_session.specs.declared.Malformed.{Malformed}
 use Rattle.replay_state.specs.declared.Part.{Part}
 use Rattle.replay_state.specs.declared.Part.TheVariants.{Stopped, Text, Long}
 use Rattle.replay_state.specs.declared.State.{State}
@@ -50,9 +50,9 @@ abbrev pub rest : Whole → List ℕ → List ℕ
 rest w input = rest_of w.state.part w.state.line (session_of w.state.call w.state.slave w.lists) w.text input
 
 -- the bytes kept begin a line that ends in bytes, and are digits from there on
-abbrev pub long_by : Head → List ℕ → Bool
-long_by Plain text = false
-long_by (Bytes l) text = all_digits (drop (width l) text)
+abbrev pub long_by : Option Line → List ℕ → Bool
+long_by None text = false
+long_by (Some l) text = all_digits (drop (width l) text)
 
 abbrev pub long_line : List ℕ → Bool
 long_line text = long_by (head_of text) text
@@ -77,19 +77,19 @@ pub record Went (v : Whole) (out₀ : List ℕ) (at : ℕ) (before : List ℕ) (
   pub sound : Sound w
 
 abbrev pub stopped_at : ℕ → State
-stopped_at line = record { line = line; part = Stopped; call = no_call; slave = fresh }
+stopped_at line = record { line = line; part = Stopped; call = None; slave = fresh }
 
 abbrev pub with_part : State → Part → State
 with_part s p = record { line = s.line; part = p; call = s.call; slave = s.slave }
 
 -- a line ended
-abbrev pub EndedAs : ℕ → Entered → ℕ → List ℕ → List ℕ → Turn → Type 0
-EndedAs line (Going call slave end) at out₀ out r = (r ≡ record {
-  state = record { line = line_after line; part = Text 0; call = call; slave = slave };
-  made = end;
+abbrev pub EndedAs : ℕ → Result Entered Malformed → ℕ → List ℕ → List ℕ → Turn → Type 0
+EndedAs line (Ok e) at out₀ out r = (r ≡ record {
+  state = record { line = line_after line; part = Text 0; call = e.call; slave = e.slave };
+  made = e.end;
 })
     × (out ≡ out₀)
-EndedAs line Malformed at out₀ out r = (r.state ≡ stopped_at line) × Appended out₀ at (refusal line) 13 out r.made
+EndedAs line (Err e) at out₀ out r = (r.state ≡ stopped_at line) × Appended out₀ at (refusal line) 13 out r.made
 
 -- the line goes on as p, or is malformed
 abbrev pub TurnedTo : State → Part → ℕ → List ℕ → List ℕ → Turn → Bool → Type 0
@@ -105,12 +105,12 @@ abbrev pub KeptAs : State → ℕ → ℕ → List ℕ → ℕ → List ℕ → 
 KeptAs s n x text at out₀ out r = KeptBy s n x text at out₀ out r (ltb n longest_kept)
 
 -- the end of a line that is longer than what is kept
-abbrev pub long_entered : Head → State → ℕ → Entered
-long_entered Plain s at = Malformed
-long_entered (Bytes l) s at = bytes_entered (taken_by l s.call) (over_of s.call.counts) s.slave at
+abbrev pub long_entered : Option Line → State → ℕ → Result Entered Malformed
+long_entered None s at = not_entered
+long_entered (Some l) s at = bytes_entered (taken_by l s.call (over_of (counts_of s.call))) s.slave at
 
 abbrev pub LongEndedAs : Bool → State → List ℕ → ℕ → List ℕ → List ℕ → Turn → Type 0
-LongEndedAs odd s text at out₀ out r = EndedAs s.line (if odd then Malformed else long_entered (head_of text) s at) at out₀ out r
+LongEndedAs odd s text at out₀ out r = EndedAs s.line (if odd then not_entered else long_entered (head_of text) s at) at out₀ out r
 
 -- n bytes from i on are a whole line with its LF behind it, where n is at most what is kept
 pub record Ahead (chunk : List ℕ) (i n : ℕ) : Type 0 where
@@ -119,6 +119,16 @@ pub record Ahead (chunk : List ℕ) (i n : ℕ) : Type 0 where
       → lines_after [] (drop i chunk ++ input) ≡ take n (drop i chunk) ∷ lines_after []
       (drop (i + n + 1) chunk ++ input)
   pub inside : n ≤ longest_kept → i + n < length chunk
+
+-- such a line, if one was found
+abbrev pub AheadIf : List ℕ → ℕ → Option ℕ → Type 0
+AheadIf chunk i None = Unit {0}
+AheadIf chunk i (Some n) = Ahead chunk i n × (n ≤ longest_kept)
+
+-- and a line begins there
+abbrev pub FreshLine : Part → List ℕ → ℕ → Option ℕ → Type 0
+FreshLine p chunk i None = Unit {0}
+FreshLine p chunk i (Some n) = Ahead chunk i n × (n ≤ longest_kept) × (p ≡ Text 0)
 
 -- whether the input so far ends inside a line
 abbrev pub begun_of : Part → Bool
@@ -132,5 +142,7 @@ stopped_of (Text n) = false
 stopped_of (Long odd) = false
 
 -- what is printed at the end of the input, after whole lines
-abbrev pub end_text : Bool → Bool → ℕ → List ℕ
-end_text stopped busy line = if stopped then [] else (if busy then refusal line else [])
+abbrev pub end_text : Bool → Option Open → ℕ → List ℕ
+end_text true call line = []
+end_text false None line = []
+end_text false (Some o) line = refusal line

@@ -1,4 +1,4 @@
--- `line_or_bytes`: the test `n < 8199` decides. Where `fresh_line` found a whole line, its `Ahead` puts
+-- `line_or_bytes`: where `fresh_line` found a whole line, its `Ahead` puts
 -- `chunk[i..end]` and the LF inside the chunk, `ahead_short` bounds the line for `enter_line`, and
 -- `line_read` is the step; else it is `end_or_bytes`'s contract.
 use mathlib.Core.Path.{◌≡◌, ◌∙◌}
@@ -8,20 +8,20 @@ use Rattle.replay_session.specs.Inner.Enter.{arrays}
 use Rattle.replay_state.proofs.Steps.{line_read}
 use Rattle.replay_step.proofs.line_or_bytes.Goals as goal
 
-pub returns-then-n-lt8199 : goal.returns-then-n-lt8199
-returns-then-n-lt8199 c = let a = c.args in
-    let n = c.fresh_line-n.result in
+pub returns : goal.returns
+returns c = let a = c.args in
+    let n = c.in-Some.n in
     let z : (a.i + n) - a.i ≡ n = omega arith in
     let d = line_read a.s a.text.now
     (arrays a.kinds.now a.lengths.now a.bytes.now a.readings.now) a.buffer.now
     a.log.now c.requires.0 a.out.now a.at
-    (c.fresh_line-n.ensures.1 c.if-n-lt8199.true) a.chunk.now a.i n
-    c.fresh_line-n.ensures.0 c.if-n-lt8199.true _ _ _
+    c.in-Some.ensures.2 a.chunk.now a.i n
+    c.in-Some.ensures.0 (omega (arith, c.in-Some.ensures.1)) _ _ _
     (c.enter_line-e.auto.buffer ∙ c.requires.0.buffer)
     (c.enter_line-e.auto.log ∙ c.requires.0.log) _ _ _ _
     (rw z at c.enter_line-e.ensures) c.end_line-t.ensures in (
       d.0,
       d.1,
       omega arith,
-      omega (arith, c.fresh_line-n.ensures.0.inside (omega (arith, c.if-n-lt8199.true))),
+      omega (arith, c.in-Some.ensures.0.inside c.in-Some.ensures.1),
     )

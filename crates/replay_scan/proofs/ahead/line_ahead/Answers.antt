@@ -1,12 +1,17 @@
 -- `line_ahead`: the invariant `Scanned`: no LF is among the first n bytes. `scan_more` adds a byte that is no
--- LF, `scan_found` ends at one, `scan_not` answers 8199. The test `left <= n` puts i + n in the chunk; `8199
--- - n` decreases.
+-- LF, `scan_found` ends at one. The end of the range puts i + n in the chunk.
 use native.Mathlib.Omega.{arith}
 use Rattle.replay_scan_readings.proofs.Scans.{scan_found, scan_more}
 use Rattle.replay_scan.proofs.ahead.line_ahead.Goals as goal
 
 pub returns-then-chunk-i-eq10 : goal.returns-then-chunk-i-eq10
-returns-then-chunk-i-eq10 c = scan_found c.loop-n.invariant (omega arith) c.if-chunk-i-eq10.true
+returns-then-chunk-i-eq10 c = (
+  scan_found c.loop-n.invariant (omega (arith, c.requires, c.loop-n-test.true, c.min-n-end.ensures))
+      c.if-chunk-i-eq10.true,
+  omega (arith, c.loop-n-test.true, c.min-n-end.ensures),
+)
 
 pub loop-n-preserved : goal.loop-n-preserved
-loop-n-preserved c = scan_more c.loop-n.invariant (omega arith) c.if-chunk-i-eq10.false
+loop-n-preserved c =
+    scan_more c.loop-n.invariant (omega (arith, c.requires, c.loop-n-test.true, c.min-n-end.ensures))
+    c.if-chunk-i-eq10.false

@@ -1,6 +1,5 @@
 -- `digits_ahead`: the invariant is the contract's `DigitsAhead` for the k bytes passed so far; `skipped_more`
--- of proofs/Skipped.antt adds a byte where the test found its digit below 16. `k < left` puts i + k in the
--- chunk; `length chunk - k` decreases.
+-- of proofs/Skipped.antt adds a byte that is a digit.
 use native.Mathlib.Omega.{arith}
 use mathlib.Core.Path.{sym, ◌∙◌}
 use borrow.Author.Tests.{ltb-true}

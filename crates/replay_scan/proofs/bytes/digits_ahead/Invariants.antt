@@ -1,13 +1,8 @@
 -- `digits_ahead`: the invariant is the contract's `DigitsAhead` for the k bytes passed so far; `skipped_more`
 -- of proofs/Skipped.antt adds a byte where the test found its digit below 16. `k < left` puts i + k in the
--- chunk; `length chunk - k` decreases.
-use Prim.Native.Nat.{◌-◌}
-use lib.ListN.{length}
+-- chunk.
 use Rattle.replay_scan.specs.Inner.Bytes.{DigitsAhead}
 use Rattle.replay_scan.proofs.bytes.digits_ahead.Given as goal
 
 abbrev pub invariant-loop-k : goal.invariant-loop-k
 invariant-loop-k l = DigitsAhead l.chunk l.i l.k
-
-abbrev pub decreases-loop-k : goal.decreases-loop-k
-decreases-loop-k l = length l.chunk - l.k

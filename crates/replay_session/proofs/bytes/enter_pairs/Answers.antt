@@ -11,7 +11,7 @@ returns-then-is_pairs c = λ rs out l. rw (
   c.enter_bytes.ensures.1,
   c.enter_bytes.ensures.2,
 ) (enters_pairs _ _ _ _ _ c.requires.0 l _ _
-    (sym c.is_pairs.ensures ∙ c.if-is_pairs.true) c.put_bytes.ensures _)
+    (sym c.is_pairs.ensures ∙ c.if-is_pairs.true) (rw c.counts_of.ensures at c.put_bytes.ensures) _)
 
 pub returns : goal.returns
 returns c = λ rs out l. enters_unpaired _ _ _ _ _ c.requires.0 l _

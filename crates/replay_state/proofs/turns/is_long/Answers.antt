@@ -7,8 +7,8 @@ use Rattle.replay_frames.proofs.Lengths.{head_fits}
 use Rattle.replay_state.proofs.turns.is_long.Goals as goal
 
 pub slice_bounds-all_digits-count : goal.slice_bounds-all_digits-count
-slice_bounds-all_digits-count c = omega (arith, head_fits _ _ (sym c.head_of.ensures ∙ c.in-Bytes.is), c.width-w.ensures)
+slice_bounds-all_digits-count c = omega (arith, head_fits _ _ (sym c.head_of.ensures ∙ c.in-Some.is), c.width-w.ensures)
 
 pub slice_bounds-all_digits-start : goal.slice_bounds-all_digits-start
 slice_bounds-all_digits-start c =
-    omega (arith, head_fits _ _ (sym c.head_of.ensures ∙ c.in-Bytes.is), c.width-w.ensures)
+    omega (arith, head_fits _ _ (sym c.head_of.ensures ∙ c.in-Some.is), c.width-w.ensures)

@@ -1,0 +1,55 @@
+// The form of a master's transfer: a number of four bits in the input, and a value of these types behind it.
+ghost use Rattle.replay_calls.specs.Form.{Formed};
+
+// Which of the master's calls it is: bits 0 and 1.
+#[derive(Clone, Copy)]
+pub enum Kind {
+    Read,
+    Write,
+    WriteRead,
+    Transaction,
+}
+
+// How the call waits for its bytes: bit 2.
+#[derive(Clone, Copy)]
+pub enum Mode {
+    Blocking,
+    Async,
+}
+
+// `coded`: with a packet error code, bit 3.
+#[derive(Clone, Copy)]
+pub struct Form {
+    pub kind: Kind,
+    pub mode: Mode,
+    pub coded: bool,
+}
+
+// A number that is no form.
+#[derive(Clone, Copy)]
+pub struct NoForm;
+
+impl TryFrom<u32> for Form {
+    type Error = NoForm;
+
+    ghost try_from_gives = { Formed };
+
+    fn try_from(bits: u32) -> Result<Form, NoForm> {
+        if 16 <= bits {
+            return Err(NoForm);
+        }
+        let kind = match bits % 4 {
+            0 => Kind::Read,
+            1 => Kind::Write,
+            2 => Kind::WriteRead,
+            _ => Kind::Transaction,
+        };
+        let mode = if bits % 8 < 4 {
+            Mode::Blocking
+        } else {
+            Mode::Async
+        };
+        let coded = 8 <= bits;
+        Ok(Form { kind, mode, coded })
+    }
+}
