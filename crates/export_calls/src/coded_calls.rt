@@ -6,7 +6,7 @@ ghost use Rattle.master.specs.Operations as Spec;
 ghost use Rattle.master.specs.Calls.{program_by, reads_into, writes_from, writes_then_reads, transacts};
 ghost use Rattle.export_reports.specs.Report.{Reports, ReportsBuffer};
 
-use export_reports::{Report, told};
+use export_reports::Report;
 
 // The code over bytes, from 0 on or from the code of what came before them.
 #[unsafe(no_mangle)]
@@ -29,7 +29,7 @@ pub extern "C" fn celadonsaw_blocking_read_pec(
         log.old readings.now read.old tt)
         log.old log.new read.new result }
 {
-    told(i2c::coded::blocking_read_pec(address, read, readings, log))
+    Report::from(i2c::coded::blocking_read_pec(address, read, readings, log))
 }
 
 // Writes the bytes and their code to the address, and ends when it is done.
@@ -45,7 +45,7 @@ pub extern "C" fn celadonsaw_blocking_write_pec(
         log.old readings.now [] tt)
         log.old log.new result }
 {
-    told(i2c::coded::blocking_write_pec(address, write, readings, log))
+    Report::from(i2c::coded::blocking_write_pec(address, write, readings, log))
 }
 
 // Writes the bytes to the address, then reads from it into the buffer and tests the code that
@@ -64,7 +64,7 @@ pub extern "C" fn celadonsaw_blocking_write_read_pec(
         log.old readings.now read.old tt)
         log.old log.new read.new result }
 {
-    told(i2c::coded::blocking_write_read_pec(address, write, read, readings, log))
+    Report::from(i2c::coded::blocking_write_read_pec(address, write, read, readings, log))
 }
 
 // Does the operations that kinds (0 a read, 1 a write) and lengths list, with the code at the end
@@ -85,7 +85,7 @@ pub extern "C" fn celadonsaw_transaction_pec(
         log.old readings.now read.old tt)
         log.old log.new read.new result }
 {
-    told(i2c::coded::transaction_pec(address, kinds, lengths, write, read, readings, log))
+    Report::from(i2c::coded::transaction_pec(address, kinds, lengths, write, read, readings, log))
 }
 
 // Reads from the address into the buffer and tests the code that follows, by polls.
@@ -101,7 +101,7 @@ pub extern "C" fn celadonsaw_read_async_pec(
         log.old readings.now read.old tt)
         log.old log.new read.new result }
 {
-    told(i2c::coded::read_async_pec(address, read, readings, log))
+    Report::from(i2c::coded::read_async_pec(address, read, readings, log))
 }
 
 // Writes the bytes and their code to the address, by polls.
@@ -117,7 +117,7 @@ pub extern "C" fn celadonsaw_write_async_pec(
         log.old readings.now [] tt)
         log.old log.new result }
 {
-    told(i2c::coded::write_async_pec(address, write, readings, log))
+    Report::from(i2c::coded::write_async_pec(address, write, readings, log))
 }
 
 // Writes the bytes to the address, then reads from it into the buffer and tests the code that
@@ -136,7 +136,7 @@ pub extern "C" fn celadonsaw_write_read_async_pec(
         log.old readings.now read.old tt)
         log.old log.new read.new result }
 {
-    told(i2c::coded::write_read_async_pec(address, write, read, readings, log))
+    Report::from(i2c::coded::write_read_async_pec(address, write, read, readings, log))
 }
 
 // Does the operations that kinds (0 a read, 1 a write) and lengths list, with the code at the end
@@ -157,5 +157,7 @@ pub extern "C" fn celadonsaw_transaction_async_pec(
         log.old readings.now read.old tt)
         log.old log.new read.new result }
 {
-    told(i2c::coded::transaction_async_pec(address, kinds, lengths, write, read, readings, log))
+    Report::from(i2c::coded::transaction_async_pec(
+        address, kinds, lengths, write, read, readings, log,
+    ))
 }

@@ -16,7 +16,7 @@ ghost use Rattle.master.specs.Operations as Spec;
 ghost use Rattle.master.specs.Transfer.{read_call, write_call, write_read_call, transaction_call};
 ghost use Rattle.export_reports.specs.Report.{rate_of, cause_numbers, Reports, ReportsBuffer};
 
-use export_reports::{AbortCauses, BusRate, Report, told, told_causes, told_rate};
+use export_reports::{AbortCauses, BusRate, Report};
 
 // Sets the bus frequency for a clock, both in Hz.
 #[unsafe(no_mangle)]
@@ -30,7 +30,7 @@ pub extern "C" fn celadonsaw_set_config(
         (expected (set_config frequency clk) log.old readings.now [] tt)
         log.old log.new result }
 {
-    told(clock::set_config(frequency, clk, readings, log))
+    Report::from(clock::set_config(frequency, clk, readings, log))
 }
 
 // The rate that the bus gets from a setting, or the refusal of `celadonsaw_set_config`.
@@ -38,7 +38,7 @@ pub extern "C" fn celadonsaw_set_config(
 pub extern "C" fn celadonsaw_bus_rate(frequency: u32, clk: u32) -> BusRate
     ensures { result ≡ rate_of (rated frequency clk) }
 {
-    told_rate(clock::bus_rate(frequency, clk))
+    BusRate::from(clock::bus_rate(frequency, clk))
 }
 
 // The causes of an abort in a raw word of TX_ABRT_SOURCE.
@@ -46,7 +46,7 @@ pub extern "C" fn celadonsaw_bus_rate(frequency: u32, clk: u32) -> BusRate
 pub extern "C" fn celadonsaw_causes(word: u32) -> AbortCauses
     ensures { result ≡ cause_numbers (causes_of word) }
 {
-    told_causes(regs_causes::causes(word))
+    AbortCauses::from(regs_causes::causes(word))
 }
 
 // Reads from the address into the buffer, and ends when it is done.
@@ -62,7 +62,7 @@ pub extern "C" fn celadonsaw_blocking_read(
         log.old readings.now read.old tt)
         log.old log.new read.new result }
 {
-    told(i2c::calls::blocking_read(address, read, readings, log))
+    Report::from(i2c::calls::blocking_read(address, read, readings, log))
 }
 
 // Writes the bytes to the address, and ends when it is done.
@@ -78,7 +78,7 @@ pub extern "C" fn celadonsaw_blocking_write(
         readings.now [] tt)
         log.old log.new result }
 {
-    told(i2c::calls::blocking_write(address, write, readings, log))
+    Report::from(i2c::calls::blocking_write(address, write, readings, log))
 }
 
 // Writes the bytes to the address, then reads from it into the buffer, and ends when it is done.
@@ -96,7 +96,7 @@ pub extern "C" fn celadonsaw_blocking_write_read(
         log.old readings.now read.old tt)
         log.old log.new read.new result }
 {
-    told(i2c::calls::blocking_write_read(address, write, read, readings, log))
+    Report::from(i2c::calls::blocking_write_read(address, write, read, readings, log))
 }
 
 // The operations that kinds (0 a read, 1 a write) and lengths list, and ends when it is done.
@@ -116,7 +116,7 @@ pub extern "C" fn celadonsaw_transaction(
         log.old readings.now read.old tt)
         log.old log.new read.new result }
 {
-    told(i2c::calls::transaction(address, kinds, lengths, write, read, readings, log))
+    Report::from(i2c::calls::transaction(address, kinds, lengths, write, read, readings, log))
 }
 
 // Reads from the address into the buffer, by polls.
@@ -132,7 +132,7 @@ pub extern "C" fn celadonsaw_read_async(
         readings.now read.old tt)
         log.old log.new read.new result }
 {
-    told(i2c::calls::read_async(address, read, readings, log))
+    Report::from(i2c::calls::read_async(address, read, readings, log))
 }
 
 // Writes the bytes to the address, by polls.
@@ -148,7 +148,7 @@ pub extern "C" fn celadonsaw_write_async(
         readings.now [] tt)
         log.old log.new result }
 {
-    told(i2c::calls::write_async(address, write, readings, log))
+    Report::from(i2c::calls::write_async(address, write, readings, log))
 }
 
 // Writes the bytes to the address, then reads from it into the buffer, by polls.
@@ -166,7 +166,7 @@ pub extern "C" fn celadonsaw_write_read_async(
         log.old readings.now read.old tt)
         log.old log.new read.new result }
 {
-    told(i2c::calls::write_read_async(address, write, read, readings, log))
+    Report::from(i2c::calls::write_read_async(address, write, read, readings, log))
 }
 
 // The operations that kinds (0 a read, 1 a write) and lengths list, by polls.
@@ -186,5 +186,5 @@ pub extern "C" fn celadonsaw_transaction_async(
         log.old readings.now read.old tt)
         log.old log.new read.new result }
 {
-    told(i2c::calls::transaction_async(address, kinds, lengths, write, read, readings, log))
+    Report::from(i2c::calls::transaction_async(address, kinds, lengths, write, read, readings, log))
 }

@@ -6,18 +6,16 @@ ghost use Rattle.slave.specs.I2cSlave.{respond_and_fill_call};
 ghost use Rattle.export_reports.specs.Report.{report_of, state_of, numbers_of};
 ghost use Rattle.export_reports.specs.Report.{ReportsState, ReportsAll};
 
-use export_reports::{Slave, SlaveReport, numbers, state, told};
+use export_reports::{Report, Slave, SlaveReport};
 use i2c_slave::Left;
 
-fn both(l: Left) -> SlaveReport
-    ensures { (result.state ≡ numbers_of l.state)
-        × (result.report ≡ report_of l.ran) }
+fn both(left: Left) -> SlaveReport
+    ensures { (result.state ≡ numbers_of left.state)
+        × (result.report ≡ report_of left.ran) }
 {
-    let s = l.state;
-    let ran = l.ran;
     SlaveReport {
-        state: numbers(s),
-        report: told(ran),
+        state: Slave::from(left.state),
+        report: Report::from(left.ran),
     }
 }
 
@@ -35,7 +33,7 @@ pub extern "C" fn celadonsaw_slave_reset(
         [] (state_of slave))
         log.old log.new result }
 {
-    both(i2c_slave::reset(state(slave), address, general_call, readings, log))
+    both(i2c_slave::reset(slave.into(), address, general_call, readings, log))
 }
 
 // `listen`, into the buffer.
@@ -51,7 +49,7 @@ pub extern "C" fn celadonsaw_slave_listen(
         readings.now buffer.old (state_of slave))
         log.old log.new buffer.new result }
 {
-    both(i2c_slave::listen(state(slave), buffer, readings, log))
+    both(i2c_slave::listen(slave.into(), buffer, readings, log))
 }
 
 // `respond_to_read`, with the bytes.
@@ -67,7 +65,7 @@ pub extern "C" fn celadonsaw_slave_respond_to_read(
         readings.now [] (state_of slave))
         log.old log.new result }
 {
-    both(i2c_slave::respond_to_read(state(slave), bytes, readings, log))
+    both(i2c_slave::respond_to_read(slave.into(), bytes, readings, log))
 }
 
 // `respond_till_stop`, with the fill byte.
@@ -83,7 +81,7 @@ pub extern "C" fn celadonsaw_slave_respond_till_stop(
         (state_of slave))
         log.old log.new result }
 {
-    both(i2c_slave::respond_till_stop(state(slave), fill, readings, log))
+    both(i2c_slave::respond_till_stop(slave.into(), fill, readings, log))
 }
 
 // `respond_and_fill`, with the bytes and then the fill byte.
@@ -100,5 +98,5 @@ pub extern "C" fn celadonsaw_slave_respond_and_fill(
         readings.now [] (state_of slave))
         log.old log.new result }
 {
-    both(i2c_slave::respond_and_fill(state(slave), bytes, fill, readings, log))
+    both(i2c_slave::respond_and_fill(slave.into(), bytes, fill, readings, log))
 }

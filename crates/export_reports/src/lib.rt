@@ -1,10 +1,9 @@
 // What the exported calls return: answers, rates, causes and the slave's state as structs of
-// numbers, and how they are made of the drivers' own (docs/MANUAL.md).
+// numbers, and how they are made of the drivers' own (docs/MANUAL.md). The structs with a flag or a
+// number beside values are those of the C interface.
 #![tactic(auto)]
 
 ghost use Rattle.std.specs.Prelude.{◌≡◌};
-ghost use Rattle.export_reports.specs.Report.{report_of, rate_of, cause_numbers};
-ghost use Rattle.export_reports.specs.Report.{pending_of, state_of, numbers_of};
 
 use clock_setting::Rate;
 use regs::access::Ran;
@@ -60,74 +59,88 @@ pub struct SlaveReport {
     pub report: Report,
 }
 
-pub fn told(ran: Ran) -> Report
-    ensures { result ≡ report_of ran }
-{
-    let reply = ran.reply;
-    Report {
-        number: regs_numbers::number_of(reply),
-        detail: regs_numbers::detail_of(reply),
-        entries: ran.entries,
-        used: ran.used,
+impl From<Ran> for Report {
+    ghost use Rattle.export_reports.specs.Report.{report_of};
+
+    ghost from_gives = { λ ran report. report ≡ report_of ran };
+
+    fn from(ran: Ran) -> Report {
+        let reply = ran.reply;
+        Report {
+            number: regs_numbers::number_of(reply),
+            detail: regs_numbers::detail_of(reply),
+            entries: ran.entries,
+            used: ran.used,
+        }
     }
 }
 
-pub fn told_rate(rated: Result<Rate, Refusal>) -> BusRate
-    ensures { result ≡ rate_of rated }
-{
-    match rated {
-        Ok(rate) => BusRate {
-            number: 0,
-            hz: rate.hz,
-            remainder: rate.remainder,
-        },
-        Err(why) => BusRate {
-            number: regs_numbers::number_of(Reply::Answered(Answer::Refused(why))),
-            hz: 0,
-            remainder: 0,
-        },
+impl From<Result<Rate, Refusal>> for BusRate {
+    ghost use Rattle.export_reports.specs.Report.{rate_of};
+
+    ghost from_gives = { λ rated rate. rate ≡ rate_of rated };
+
+    fn from(rated: Result<Rate, Refusal>) -> BusRate {
+        match rated {
+            Ok(rate) => BusRate {
+                number: 0,
+                hz: rate.hz,
+                remainder: rate.remainder,
+            },
+            Err(why) => BusRate {
+                number: regs_numbers::number_of(Reply::Answered(Answer::Refused(why))),
+                hz: 0,
+                remainder: 0,
+            },
+        }
     }
 }
 
-pub fn told_causes(set: Option<Counted>) -> AbortCauses
-    ensures { result ≡ cause_numbers set }
-{
-    match set {
-        None => AbortCauses {
-            count: 0,
-            lowest: 0,
-        },
-        Some(counted) => AbortCauses {
-            count: counted.count,
-            lowest: counted.lowest,
-        },
+impl From<Option<Counted>> for AbortCauses {
+    ghost use Rattle.export_reports.specs.Report.{cause_numbers};
+
+    ghost from_gives = { λ set causes. causes ≡ cause_numbers set };
+
+    fn from(set: Option<Counted>) -> AbortCauses {
+        match set {
+            None => AbortCauses {
+                count: 0,
+                lowest: 0,
+            },
+            Some(counted) => AbortCauses {
+                count: counted.count,
+                lowest: counted.lowest,
+            },
+        }
     }
 }
 
-fn pending(has: bool, byte: u8) -> Option<u8>
-    ensures { result ≡ pending_of has byte }
-{
-    has.then_some(byte)
-}
+impl From<Slave> for SlaveState {
+    ghost use Rattle.export_reports.specs.Report.{state_of};
 
-pub fn state(s: Slave) -> SlaveState
-    ensures { result ≡ state_of s }
-{
-    SlaveState {
-        pending_byte: pending(s.has_pending, s.pending_byte),
-        address: s.address,
-        general_call: s.general_call,
+    ghost from_gives = { λ numbers state. state ≡ state_of numbers };
+
+    fn from(s: Slave) -> SlaveState {
+        SlaveState {
+            pending_byte: s.has_pending.then_some(s.pending_byte),
+            address: s.address,
+            general_call: s.general_call,
+        }
     }
 }
 
 // The state as numbers. Where no byte is kept, its place is 0.
-pub fn numbers(s: SlaveState) -> Slave
-    ensures { result ≡ numbers_of s }
-{
-    Slave {
-        has_pending: s.pending_byte.is_some(),
-        pending_byte: s.pending_byte.unwrap_or(0),
-        address: s.address,
-        general_call: s.general_call,
+impl From<SlaveState> for Slave {
+    ghost use Rattle.export_reports.specs.Report.{numbers_of};
+
+    ghost from_gives = { λ state numbers. numbers ≡ numbers_of state };
+
+    fn from(s: SlaveState) -> Slave {
+        Slave {
+            has_pending: s.pending_byte.is_some(),
+            pending_byte: s.pending_byte.unwrap_or(0),
+            address: s.address,
+            general_call: s.general_call,
+        }
     }
 }
