@@ -1,12 +1,11 @@
 -- The rate by what the code computes: in range, and legal. It rests on `stepped_set_config`: the machine, stepped from where
 -- these put it, answers what `set_config` answers.
-use Prim.Native.Nat.{ℕ, ◌+◌, ◌<◌, ◌≤◌}
-use native.Mathlib.Omega.{arith}
+use Prim.Native.Nat.{ℕ, ◌+◌, ◌≤◌}
 use mathlib.Core.List.{[], ◌∷◌}
 use mathlib.Core.Path.{◌≡◌, refl, sym, ap, ◌∙◌}
-use lib.Dec.{eqb, ltb}
+use lib.Dec.{ltb}
 use lib.ListN.{replicate}
-use borrow.Author.Tests.{ltb-false, eqb-false}
+use borrow.Author.Tests.{ltb-false}
 use Rattle.regs.proofs.Tests.{by_test}
 use Rattle.regs.specs.Program.{Outcome}
 use Rattle.regs.specs.Steps.{stepped, with_room, without_room}
@@ -20,18 +19,10 @@ use Rattle.clock.specs.declared.Counts.{Counts}
 use Rattle.clock.specs.Inner.Machine.{machine, counts, fits, reaches, holds, unless, setting, range, start_in}
 use Rattle.clock.proofs.Stepped.{stepped_set_config}
 
--- ---- what a range and a setting say
+-- ---- what a setting says
 
 refused_is_not : {A : Type 0} {why : Refusal} {a : A} → Err why ≡ Ok a → ⊥
 refused_is_not e = cc
-
-pub within : (f clk : ℕ) → range f clk ≡ Ok tt → (0 < f) × (f ≤ 1000000) × (clk ≤ 1431655765)
-within f clk e =
-    by_test (ltb 1000000 f) (λ q. absurd (refused_is_not (rw q at e))) (λ q₁.
-    by_test (eqb f 0) (λ q. absurd (refused_is_not (rw (q₁, q) at e))) (λ q₂.
-    by_test (ltb 1431655765 clk) (λ q. absurd (refused_is_not (rw (q₁, q₂, q) at e))) (λ q₃.
-    let n = eqb-false f 0 q₂ in
-    (omega (arith, n), omega (arith, ltb-false 1000000 f q₁), omega (arith, ltb-false 1431655765 clk q₃)))))
 
 fitting : (h l : ℕ) (s : Result Counts Refusal) (n : Counts) → unless (fits h l) s ≡ Ok n → (h ≤ 65535) × (l ≤ 65535) × (s ≡ Ok n)
 unfolding fits

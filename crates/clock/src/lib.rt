@@ -2,7 +2,7 @@
 // one register access a step and as a whole call; and the rate that the bus gets from it.
 #![tactic(auto)]
 
-ghost use Rattle.std.specs.Prelude.{◌≡◌, [], ◌/◌, ◌≤◌, ◌<◌, length};
+ghost use Rattle.std.specs.Prelude.{◌≡◌, [], ◌/◌, ◌≤◌, ◌<◌, length, IfOk, IfErr};
 ghost use Rattle.regs.specs.Inner.Machine.{final, ran};
 ghost use Rattle.regs.specs.Log.{Leaves, expected};
 ghost use Rattle.clock_setting.specs.SetConfig.{set_config, period, lcnt_of, hcnt_of, spklen};
@@ -25,6 +25,16 @@ pub struct Counts {
     pub hold: u16,
 }
 
+// A frequency and a clock that are looked at further, both in Hz.
+#[derive(Clone, Copy)]
+struct Wanted {
+    frequency: u32,
+    clk: u32,
+    ghost some_frequency: { 0 < frequency },
+    ghost frequency_in_range: { frequency ≤ 1000000 },
+    ghost clock_in_range: { clk ≤ 1431655765 },
+}
+
 // Where clock setup stands: the access that is next.
 #[derive(Clone, Copy)]
 pub enum ClockPoint {
@@ -38,17 +48,8 @@ pub enum ClockPoint {
     Finished(Answer),
 }
 
-fn period_of(frequency: u32, clk: u32) -> u32
-    requires { (0 < frequency)
-        × (frequency ≤ 1000000)
-        × (clk ≤ 1431655765) }
-    ensures { (result ≡ period frequency clk)
-        × (result ≤ 1431655765) }
-{
-    (clk + frequency / 2) / frequency
-}
-
 // Three fifths of the period are low, the rest is high.
+#[tactic(auto, unfolding(clock_setting::specs::SetConfig::lcnt_of))]
 fn low_of(p: u32) -> u32
     requires { p ≤ 1431655765 }
     ensures { (result ≡ lcnt_of p)
@@ -57,25 +58,13 @@ fn low_of(p: u32) -> u32
     p * 3 / 5
 }
 
+#[tactic(auto, unfolding(clock_setting::specs::SetConfig::hcnt_of))]
 fn high_of(p: u32, low: u32) -> u32
     requires { (low ≡ lcnt_of p)
         × (low ≤ p) }
     ensures { result ≡ hcnt_of p }
 {
     p - low
-}
-
-// SDA's hold time in periods of the clock: 300 ns below 1 MHz, 120 ns at 1 MHz.
-fn hold_of(frequency: u32, clk: u32) -> u16
-    requires { clk ≤ 1431655765 }
-    ensures { (result ≡ hold frequency clk)
-        × (result < 1000) }
-{
-    if frequency < 1_000_000 {
-        (clk * 3 / 10_000_000 + 1) as u16
-    } else {
-        (clk * 3 / 25_000_000 + 1) as u16
-    }
 }
 
 // The spike count. The quotient is cut to 8 bits as in the Rust.
@@ -121,50 +110,71 @@ fn if_holds(frequency: u32, clk: u32, lcnt: u32, hold: u16) -> Result<(), Refusa
     Ok(())
 }
 
-// What a frequency and a clock in range come to.
-fn setting_of(frequency: u32, clk: u32) -> Result<Counts, Refusal>
-    requires { (0 < frequency)
-        × (frequency ≤ 1000000)
-        × (clk ≤ 1431655765) }
-    ensures { result ≡ setting frequency clk }
-{
-    let period = period_of(frequency, clk);
-    let lcnt = low_of(period);
-    let hcnt = high_of(period, lcnt);
-    let hold = hold_of(frequency, clk);
-    if_fits(hcnt, lcnt)?;
-    if_reaches(hcnt, lcnt)?;
-    if_holds(frequency, clk, lcnt, hold)?;
-    Ok(Counts {
-        hcnt,
-        lcnt,
-        spklen: spklen_of(lcnt),
-        hold,
-    })
-}
+impl Wanted {
+    // What is tested before the first access.
+    fn new(frequency: u32, clk: u32) -> Result<Wanted, Refusal>
+        ensures same { IfOk result (λ w. (w.frequency ≡ frequency) × (w.clk ≡ clk)) }
+        ensures in_range { IfOk result (λ w. range w.frequency w.clk ≡ Ok tt) }
+        ensures refused { IfErr result (λ why. range frequency clk ≡ Err why) }
+    {
+        if 1_000_000 < frequency {
+            return Err(Refusal::FrequencyTooHigh);
+        }
+        if frequency == 0 {
+            return Err(Refusal::FrequencyZero);
+        }
+        if 1_431_655_765 < clk {
+            return Err(Refusal::ClockOutOfRange);
+        }
+        Ok(Wanted { frequency, clk })
+    }
 
-// Whether a frequency and a clock are looked at further: what is tested before the first access.
-fn range_of(frequency: u32, clk: u32) -> Result<(), Refusal>
-    ensures { result ≡ range frequency clk }
-{
-    if 1_000_000 < frequency {
-        return Err(Refusal::FrequencyTooHigh);
+    // The period of the bus in periods of the clock.
+    fn period(self) -> u32
+        ensures value { result ≡ period self.frequency self.clk }
+        ensures in_range { result ≤ 1431655765 }
+    {
+        (self.clk + self.frequency / 2) / self.frequency
     }
-    if frequency == 0 {
-        return Err(Refusal::FrequencyZero);
+
+    // SDA's hold time in periods of the clock: 300 ns below 1 MHz, 120 ns at 1 MHz.
+    fn hold(self) -> u16
+        ensures value { result ≡ hold self.frequency self.clk }
+        ensures short { result < 1000 }
+    {
+        if self.frequency < 1_000_000 {
+            (self.clk * 3 / 10_000_000 + 1) as u16
+        } else {
+            (self.clk * 3 / 25_000_000 + 1) as u16
+        }
     }
-    if 1_431_655_765 < clk {
-        return Err(Refusal::ClockOutOfRange);
+
+    // What these come to.
+    fn setting(self) -> Result<Counts, Refusal>
+        ensures { result ≡ setting self.frequency self.clk }
+    {
+        let period = self.period();
+        let lcnt = low_of(period);
+        let hcnt = high_of(period, lcnt);
+        let hold = self.hold();
+        if_fits(hcnt, lcnt)?;
+        if_reaches(hcnt, lcnt)?;
+        if_holds(self.frequency, self.clk, lcnt, hold)?;
+        Ok(Counts {
+            hcnt,
+            lcnt,
+            spklen: spklen_of(lcnt),
+            hold,
+        })
     }
-    Ok(())
 }
 
 // The first access of clock setup, or its refusal.
 pub fn start(frequency: u32, clk: u32) -> ClockPoint
     ensures { result ≡ start_of frequency clk }
 {
-    match range_of(frequency, clk) {
-        Ok(()) => ClockPoint::Disable(setting_of(frequency, clk)),
+    match Wanted::new(frequency, clk) {
+        Ok(wanted) => ClockPoint::Disable(wanted.setting()),
         Err(why) => ClockPoint::Finished(Answer::Refused(why)),
     }
 }
@@ -241,8 +251,8 @@ pub fn set_config(frequency: u32, clk: u32, readings: &[u32], log: &mut [u32]) -
 pub fn bus_rate(frequency: u32, clk: u32) -> Result<Rate, Refusal>
     ensures { result ≡ rated frequency clk }
 {
-    range_of(frequency, clk)?;
-    let n = setting_of(frequency, clk)?;
+    let wanted = Wanted::new(frequency, clk)?;
+    let n = wanted.setting()?;
     let periods = n.hcnt + n.lcnt;
     Ok(Rate {
         hz: clk / periods,
