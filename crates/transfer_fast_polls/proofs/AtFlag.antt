@@ -31,7 +31,7 @@ stop_awaits had = record { reads = λ bytes t. refl; keeps = λ t v. refl; waits
 
 module _ (coded : Bool) (kinds lengths bytes : List ℕ) {readings : List ℕ} (t : Transfer) {s₀ : Transfer} {e₀ u₀ : ℕ}
     {l₀ b₀ : List ℕ} {p : Point} {stop : Bool} {e u : ℕ} {l b : List ℕ} where
-  poll_unset : Reaches (machine coded kinds lengths bytes) readings s₀ e₀ u₀ l₀ b₀ (with_point t p) e u l b
+  pub poll_unset : Reaches (machine coded kinds lengths bytes) readings s₀ e₀ u₀ l₀ b₀ (with_point t p) e u l b
       → AwaitsFlag stop p
       → flag_set stop (get_or readings u 0) ≡ false
       → e < length l₀ / 2 → u < length readings
@@ -42,38 +42,3 @@ module _ (coded : Bool) (kinds lengths bytes : List ℕ) {readings : List ℕ} (
       let a : M.advance (with_point t p) (get_or readings u 0) ≡ with_point t p =
       rw (at.waits t.len t.send_stop (get_or readings u 0) unset) in
       rw (at.keeps (with_point t p) (get_or readings u 0)) at (did_read g (at.reads bytes (with_point t p)) room left a refl refl)
-
--- how far the polls came
-abbrev pub Came : Bool → List ℕ → ℕ → List ℕ → ℕ → ℕ → ℕ → List ℕ → Type 0
-Came stop readings used l₀ entries u k l = ForAny (λ (p : Point). AwaitsFlag stop p → Stays p readings entries used l₀ k u l)
-
--- the loop's head
-abbrev pub Polling : Bool → List ℕ → ℕ → List ℕ → ℕ → List ℕ → ℕ → ℕ → ℕ → Type 0
-Polling stop readings used l₀ entries l n u k = Polls (Came stop readings used l₀ entries) 1 1 readings l₀ l n u k
-
-pub none : {stop : Bool} {readings : List ℕ} {used : ℕ} {l : List ℕ} {entries : ℕ}
-    → entries ≤ length l / 2
-    → length l < 2 ^ 64
-    → Came stop readings used l entries used entries l
-none {readings = readings} has fits =
-    λ p at. record { reaches = λ coded kinds lengths bytes t b. stays (machine coded kinds lengths bytes) readings has fits }
-
-pub next : {stop : Bool} {readings : List ℕ} {used : ℕ} {l₀ : List ℕ} {entries : ℕ} {l : List ℕ} {n u k : ℕ}
-    → Polling stop readings used l₀ entries l n u k
-    → 0 < n
-    → flag_set stop (get_or readings u 0) ≡ false
-    → {l' : List ℕ}
-    → l' ≡ entered l k (0x100 + RAW_INTR_STAT) (get_or readings u 0)
-    → Polling stop readings used l₀ entries l' (n - 1) (u + 1) (k + 1)
-next {stop} {readings} {used} {l₀} {entries} {l} {n} {u} {k} g more unset e' =
-    let has_room : k < length l₀ / 2 = omega (arith, g.room, more) in
-    let has_left : u < length readings = omega (arith, g.left, more) in
-    poll g
-    (λ p at. record {
-      reaches = λ coded kinds lengths bytes t b. rw e'
-          (poll_unset coded kinds lengths bytes t ((g.came p at).reaches coded kinds lengths bytes t b) at unset has_room
-          has_left);
-    })
-    (omega (arith, g.room, more))
-    (omega (arith, g.left, more))
-    (rw e' (simp length-set))

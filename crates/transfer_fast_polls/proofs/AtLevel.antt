@@ -26,7 +26,7 @@ use Rattle.transfer_fast_polls.specs.Inner.Stays.{Stays, no_byte}
 
 module _ (coded : Bool) (kinds lengths bytes : List ℕ) {readings : List ℕ} (t : Transfer) {s₀ : Transfer} {e₀ u₀ : ℕ}
     {l₀ b₀ : List ℕ} {i e u : ℕ} {l b : List ℕ} where
-  poll_empty : Reaches (machine coded kinds lengths bytes) readings s₀ e₀ u₀ l₀ b₀ (with_point t (ReadBlocking (Level i)))
+  pub poll_empty : Reaches (machine coded kinds lengths bytes) readings s₀ e₀ u₀ l₀ b₀ (with_point t (ReadBlocking (Level i)))
       e u l b
       → no_byte (get_or readings u 0) (get_or readings (u + 1) 0) ≡ true
       → e + 2 ≤ length l₀ / 2 → u + 2 ≤ length readings
@@ -44,37 +44,3 @@ module _ (coded : Bool) (kinds lengths bytes : List ℕ) {readings : List ℕ} (
       let a₂ : M.advance (with_point t (Abort Source (Read i))) (get_or readings (u + 1) 0)
       ≡ with_point t (ReadBlocking (Level i)) = rw both.1 in
       did_read g₁ refl (omega (arith, room)) (omega (arith, left)) a₂ q₂ v₂
-
--- how far the polls came
-abbrev pub Came : List ℕ → ℕ → List ℕ → ℕ → ℕ → ℕ → List ℕ → Type 0
-Came readings used l₀ entries u k l = ForAny (λ (i : ℕ). Stays (ReadBlocking (Level i)) readings entries used l₀ k u l)
-
--- the loop's head
-abbrev pub Polling : List ℕ → ℕ → List ℕ → ℕ → List ℕ → ℕ → ℕ → ℕ → Type 0
-Polling readings used l₀ entries l n u k = Polls (Came readings used l₀ entries) 2 2 readings l₀ l n u k
-
-pub none : {readings : List ℕ} {used : ℕ} {l : List ℕ} {entries : ℕ}
-    → entries ≤ length l / 2
-    → length l < 2 ^ 64
-    → Came readings used l entries used entries l
-none {readings} has fits = λ i. record { reaches = λ coded kinds lengths bytes t b. stays (machine coded kinds lengths bytes) readings has fits }
-
-pub next : {readings : List ℕ} {used : ℕ} {l₀ : List ℕ} {entries : ℕ} {l : List ℕ} {n u k : ℕ}
-    → Polling readings used l₀ entries l n u k
-    → 0 < n
-    → no_byte (get_or readings u 0) (get_or readings (u + 1) 0) ≡ true
-    → {l₁ l₂ : List ℕ}
-    → l₁ ≡ entered l k (0x100 + RXFLR) (get_or readings u 0)
-    → l₂ ≡ entered l₁ (k + 1) (0x100 + TX_ABRT_SOURCE) (get_or readings (u + 1) 0)
-    → Polling readings used l₀ entries l₂ (n - 1) (u + 2) (k + 2)
-next {readings} {used} {l₀} {entries} {l} {n} {u} {k} g more empty e₁ e₂ =
-    let has_room : k + 2 ≤ length l₀ / 2 = omega (arith, g.room, more) in
-    let has_left : u + 2 ≤ length readings = omega (arith, g.left, more) in
-    poll g
-    (λ i. record {
-      reaches = λ coded kinds lengths bytes t b. rw (e₂, e₁)
-          (poll_empty coded kinds lengths bytes t ((g.came i).reaches coded kinds lengths bytes t b) empty has_room has_left);
-    })
-    (omega (arith, g.room, more))
-    (omega (arith, g.left, more))
-    (rw (e₂, e₁) (simp length-set))

@@ -3,7 +3,7 @@ use Prim.Native.Nat.{ℕ, ◌+◌, ◌/◌, ◌-◌, ◌<◌, ◌≤◌}
 use native.Mathlib.Omega.{arith}
 use mathlib.Core.Bool.{Bool, true, not}
 use mathlib.Core.List.{List}
-use mathlib.Core.Path.{◌≡◌, refl}
+use mathlib.Core.Path.{◌≡◌, refl, ◌∙◌}
 use lib.Dec.{eqb, ltb}
 use lib.ListN.{length, get_or}
 use borrow.Author.Tests.{eqb-true, not-true}
@@ -28,14 +28,23 @@ use Rattle.transfer.specs.declared.AbortPoint.TheVariants.{Source}
 use Rattle.transfer.specs.declared.Caller.TheVariants as C
 use Rattle.transfer.specs.declared.WaitPoint.TheVariants.{RxTl, TxTl, Mask, SetMask, Pending}
 use Rattle.transfer.specs.declared.StopPoint.TheVariants.{Stat}
-use Rattle.std.specs.Prelude.{Ok}
+use Rattle.transfer.specs.declared.Tried.TheVariants.{Fine}
+use Rattle.regs.specs.declared.access.Recording.{Recording}
+use Rattle.regs_runs.specs.Inner.Puts.{Puts}
 use Rattle.regs_runs.specs.Inner.Reaches.{Reaches}
-use Rattle.regs_runs.proofs.Reach.{did_read, did_write, did_mark}
-use Rattle.transfer_fast_polls.specs.Inner.Stays.{too_few, no_place, no_stop}
+use Rattle.regs_runs.proofs.Reach.{keeps_on, did_read, did_write, did_mark}
+use Rattle.transfer_fast_polls.specs.Inner.Stays.{waited, too_few, no_place, no_stop}
 
--- three entries: INTR_MASK, read and set, and the mark
-abbrev pub waited : List ℕ → ℕ → ℕ → ℕ → List ℕ
-waited l k mask set = entered (entered (entered l k (0x100 + INTR_MASK) mask) (k + 1) (0x200 + INTR_MASK) set) (k + 2) (0x300 + PENDING) 0
+-- the three entries of a wait behind those of its poll
+pub wait_put : (mask set : ℕ) {before mid after : Recording} {n : ℕ} {l : List ℕ} → Puts before n l mid
+    → Puts mid 3 (waited mid.log.now mid.entries mask set) after
+    → Puts before (n + 3) (waited l (before.entries + n) mask set) after
+wait_put mask set p x = record {
+  keeps = keeps_on p.keeps x.keeps;
+  log = rw (p.log, p.entries) at x.log;
+  entries = omega (arith, x.entries, p.entries);
+  used = x.used ∙ p.used;
+}
 
 module _ (coded : Bool) (kinds lengths bytes : List ℕ) {readings : List ℕ} (t : Transfer) {s₀ : Transfer} {e₀ u₀ : ℕ}
     {l₀ b₀ : List ℕ} {e u : ℕ} {l b : List ℕ} where

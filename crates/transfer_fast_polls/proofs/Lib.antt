@@ -3,4 +3,3 @@ pub mod AtFlag
 pub mod AtLevel
 pub mod AtWait
 pub mod Still
-pub mod Waiting

@@ -1,31 +1,43 @@
--- No poll, and a wait known by its point.
-use Prim.Native.Nat.{ℕ, ◌/◌, ◌<◌, ◌≤◌, ◌^◌}
+-- No poll, one poll after the other, and a poll's entries with its readings.
+use Prim.Native.Nat.{ℕ, ◌+◌, ◌/◌, ◌<◌, ◌≤◌, ◌^◌}
+use mathlib.Core.Bool.{Bool}
 use mathlib.Core.List.{List}
-use mathlib.Core.Path.{◌≡◌, ap, ◌∙◌}
+use mathlib.Core.Path.{◌≡◌}
 use lib.ListN.{length}
+use Rattle.regs.specs.declared.access.Recording.{Recording}
 use Rattle.transfer.specs.Inner.Machine.{machine}
+use Rattle.transfer.specs.Inner.Points.{with_point}
+use Rattle.transfer.specs.declared.Transfer.{Transfer}
 use Rattle.transfer.specs.declared.Point.{Point}
-use Rattle.transfer.specs.declared.Point.TheVariants.{Abort}
-use Rattle.transfer.specs.declared.AbortPoint.{AbortPoint}
-use Rattle.transfer.specs.declared.Caller.{Caller}
-use Rattle.regs_runs.proofs.Reach.{stays}
+use Rattle.regs_runs.specs.Inner.Puts.{Puts}
+use Rattle.regs_runs.specs.Inner.Reaches.{Reaches}
+use Rattle.regs_runs.proofs.Reach.{stays, then, keeps_all, keeps_on}
 use Rattle.transfer_fast_polls.specs.Inner.Stays.{Stays}
-use Rattle.transfer_fast_polls.specs.declared.Polled.{Polled}
 
-pub still : {p : Point} {readings : List ℕ} {used : ℕ} {l : List ℕ} {entries : ℕ} {r : Polled}
-    → (r.used ≡ used) × (r.entries ≡ entries)
-    → entries ≤ length l / 2
-    → length l < 2 ^ 64
-    → Stays p readings entries used l r.entries r.used l
-still {readings = readings} is room fits = record {
-  reaches = λ coded kinds lengths bytes t b. rw (is.0, is.1) (stays (machine coded kinds lengths bytes) readings room fits);
+pub no_poll : {p : Point} {r : Recording} → r.entries ≤ length r.log.now / 2 → length r.log.now < 2 ^ 64 → Stays p r r
+no_poll {r = r} room fits = record {
+  keeps = keeps_all;
+  room = room;
+  reaches = λ coded kinds lengths bytes t b. stays (machine coded kinds lengths bytes) r.readings.now room fits;
 }
 
-pub at : {p q : Point} {readings : List ℕ} {e u : ℕ} {l : List ℕ} {e' u' : ℕ} {l' : List ℕ}
-    → p ≡ q
-    → Stays q readings e u l e' u' l'
-    → Stays p readings e u l e' u' l'
-at is s = rw is s
+pub poll_after : {p : Point} {r r₁ r₂ : Recording} → Stays p r r₁ → Stays p r₁ r₂ → Stays p r r₂
+poll_after x y = record {
+  keeps = keeps_on x.keeps y.keeps;
+  room = y.room;
+  reaches = λ coded kinds lengths bytes t b. then (x.reaches coded kinds lengths bytes t b)
+      (rw x.keeps.readings at (y.reaches coded kinds lengths bytes t b));
+}
 
-pub abort_at : {p : Point} {a a' : AbortPoint} {c : Caller} → p ≡ Abort a c → a ≡ a' → p ≡ Abort a' c
-abort_at {c = c} e q = e ∙ ap (λ (x : AbortPoint). Abort x c) q
+-- a poll's entries are in the log, and its readings are used
+pub polled : (m : ℕ) {p : Point} {before mid : Recording} {n : ℕ} {l : List ℕ} → Puts before n l mid
+    → before.entries + n ≤ length before.log.now / 2
+    → ((coded : Bool) (kinds lengths bytes : List ℕ) (t : Transfer) (b : List ℕ)
+    → Reaches (machine coded kinds lengths bytes) before.readings.now (with_point t p) before.entries before.used
+    before.log.now b (with_point t p) (before.entries + n) (before.used + m) l b)
+    → Stays p before (record mid { used = mid.used + m })
+polled m put room run = record {
+  keeps = record { readings = put.keeps.readings; loan = put.keeps.loan; size = put.keeps.size };
+  room = rw (put.entries, put.keeps.size) room;
+  reaches = λ coded kinds lengths bytes t b. rw (put.entries, put.used, put.log) (run coded kinds lengths bytes t b);
+}

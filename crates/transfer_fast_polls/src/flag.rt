@@ -1,13 +1,13 @@
 // `write_blocking_internal`: RAW_INTR_STAT is read until TX_EMPTY is set, or STOP_DET.
-ghost use Rattle.std.specs.Prelude.{◌≡◌, ◌/◌, ◌≤◌, length};
+ghost use Rattle.std.specs.Prelude.{true, ◌≡◌, ◌<◌, ◌≤◌};
+ghost use Rattle.regs.specs.Inner.Recording.{room_of};
 ghost use Rattle.transfer.specs.declared.Point.{Point};
 ghost use Rattle.transfer_fast_blocking.specs.Inner.Bursts.{ForAny};
 ghost use Rattle.transfer_fast_polls.specs.Inner.Stays.{Stays, flag_set, AwaitsFlag};
 
-use super::Polled;
-use counts::least;
+use regs::access::Recording;
 use regs::fields::{has_stop_det, has_tx_empty};
-use regs_runs::put_read;
+use regs_runs::has;
 
 // Whether the flag is set: STOP_DET, or else TX_EMPTY.
 fn is_set(stop: bool, stat: u32) -> bool
@@ -20,30 +20,19 @@ fn is_set(stop: bool, stat: u32) -> bool
     }
 }
 
-pub fn polls(stop: bool, readings: &[u32], used: usize, log: &mut [u32], entries: usize) -> Polled
-    requires { entries ≤ length log.old / 2 }
-    ensures { ForAny
-        (λ (p : Point). AwaitsFlag stop p → Stays p readings.now entries used log.old
-        result.entries result.used log.new) }
+pub fn poll(stop: bool, recording: &mut Recording) -> bool
+    requires { recording.old.entries ≤ room_of recording.old }
+    ensures stays { ForAny
+        (λ (p : Point). AwaitsFlag stop p → Stays p recording.old recording.new) }
+    ensures found_nothing { result ≡ true → recording.old.entries < recording.new.entries }
 {
-    if used > readings.len() {
-        return Polled { used, entries };
-    }
-    let mut n = least(log.len() / 2 - entries, readings.len() - used);
-    let mut u = used;
-    let mut k = entries;
-    while 0 < n {
-        let stat = readings[u];
-        if is_set(stop, stat) {
-            break;
+    if has(recording, 1, 1) {
+        let stat = recording.readings[recording.used];
+        if !is_set(stop, stat) {
+            recording.put_read(regs::RAW_INTR_STAT, stat);
+            recording.used += 1;
+            return true;
         }
-        put_read(log, k, regs::RAW_INTR_STAT, stat);
-        u += 1;
-        k += 1;
-        n -= 1;
     }
-    Polled {
-        used: u,
-        entries: k,
-    }
+    false
 }

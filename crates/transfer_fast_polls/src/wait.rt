@@ -1,34 +1,33 @@
 // `wait_on` of the async forms: a poll that is not done sets
 // INTR_MASK and makes its mark, and the next poll comes.
-ghost use Rattle.std.specs.Prelude.{◌≡◌, ℕ, ◌+◌, ◌-◌, ◌/◌, ◌<◌, ◌≤◌, length};
-ghost use Rattle.regs.specs.Program.{PENDING};
-ghost use Rattle.regs.specs.Registers.{INTR_MASK};
-ghost use Rattle.regs.specs.Inner.Machine.{entered};
+ghost use Rattle.std.specs.Prelude.{true, ◌≡◌, ℕ, ◌+◌, ◌<◌, ◌≤◌};
+ghost use Rattle.regs.specs.Inner.Recording.{room_of};
+ghost use Rattle.regs_runs.specs.Inner.Puts.{Puts};
 ghost use Rattle.transfer.specs.declared.Round.{Round};
 ghost use Rattle.transfer.specs.declared.Point.TheVariants.{Abort, ReadAsync};
 ghost use Rattle.transfer.specs.declared.RoundPoint.TheVariants.{Level};
 ghost use Rattle.transfer.specs.declared.AbortPoint.TheVariants.{Source};
 ghost use Rattle.transfer.specs.declared.Caller.TheVariants.{Space, Stop};
 ghost use Rattle.transfer_fast_blocking.specs.Inner.Bursts.{ForAny};
-ghost use Rattle.transfer_fast_polls.specs.Inner.Stays.{Stays, too_few, no_place, no_stop};
+ghost use Rattle.transfer_fast_polls.specs.Inner.Stays.{Stays, waited, too_few, no_place, no_stop};
 
-use super::Polled;
-use counts::least;
+use regs::access::Recording;
 use regs::fields::{
     has_stop_det, level_of, with_m_rx_full, with_m_stop_det, with_m_tx_abrt, with_m_tx_empty,
 };
-use regs_runs::{put_mark, put_read, put_write};
+use regs_runs::has;
+use transfer::counts::less;
 
 // INTR_MASK, read and set, and the mark: three entries.
-fn put_wait(log: &mut [u32], k: usize, mask: u32, set: u32)
-    requires { k + 3 ≤ length log.old / 2 }
-    ensures { log.new ≡ entered
-        (entered (entered log.old k (0x100 + INTR_MASK) mask) (k + 1) (0x200 + INTR_MASK) set)
-        (k + 2) (0x300 + PENDING) 0 }
+fn put_wait(recording: &mut Recording, mask: u32, set: u32)
+    requires { recording.old.entries + 3 ≤ room_of recording.old }
+    ensures { Puts recording.old 3
+        (waited recording.old.log.now recording.old.entries mask set)
+        recording.new }
 {
-    put_read(log, k, regs::INTR_MASK, mask);
-    put_write(log, k + 1, regs::INTR_MASK, set);
-    put_mark(log, k + 2, regs::PENDING);
+    recording.put_read(regs::INTR_MASK, mask);
+    recording.put_write(regs::INTR_MASK, set);
+    recording.put_mark(regs::PENDING);
 }
 
 fn is_too_few(batch: u16, filled: u32, source: u32) -> bool
@@ -38,38 +37,27 @@ fn is_too_few(batch: u16, filled: u32, source: u32) -> bool
 }
 
 // RXFLR has not reached the words of the round.
-pub fn batch(batch: u16, readings: &[u32], used: usize, log: &mut [u32], entries: usize) -> Polled
-    requires { entries ≤ length log.old / 2 }
-    ensures { ForAny
-        (λ (x : Round). x.batch ≡ batch → Stays (ReadAsync (Level x)) readings.now entries used
-        log.old result.entries result.used log.new) }
+pub fn batch(batch: u16, recording: &mut Recording) -> bool
+    requires { recording.old.entries ≤ room_of recording.old }
+    ensures stays { ForAny
+        (λ (x : Round). x.batch ≡ batch → Stays (ReadAsync (Level x)) recording.old
+        recording.new) }
+    ensures found_nothing { result ≡ true → recording.old.entries < recording.new.entries }
 {
-    if used > readings.len() {
-        return Polled { used, entries };
-    }
-    let mut n = least((log.len() / 2 - entries) / 6, (readings.len() - used) / 3);
-    let mut u = used;
-    let mut k = entries;
-    while 0 < n {
-        let first = readings[u];
-        let second = readings[u + 1];
-        if is_too_few(batch, first, second) {
-            let mask = readings[u + 2];
-            put_read(log, k, regs::RXFLR, first);
-            put_read(log, k + 1, regs::TX_ABRT_SOURCE, second);
-            put_write(log, k + 2, regs::RX_TL, batch.saturating_sub(1) as u32);
-            put_wait(log, k + 3, mask, with_m_tx_abrt(with_m_rx_full(mask)));
-            u += 3;
-            k += 6;
-            n -= 1;
-        } else {
-            break;
+    if has(recording, 3, 6) {
+        let filled = recording.readings[recording.used];
+        let source = recording.readings[recording.used + 1];
+        if is_too_few(batch, filled, source) {
+            let mask = recording.readings[recording.used + 2];
+            recording.put_read(regs::RXFLR, filled);
+            recording.put_read(regs::TX_ABRT_SOURCE, source);
+            recording.put_write(regs::RX_TL, u32::from(less(batch)));
+            put_wait(recording, mask, with_m_tx_abrt(with_m_rx_full(mask)));
+            recording.used += 3;
+            return true;
         }
     }
-    Polled {
-        used: u,
-        entries: k,
-    }
+    false
 }
 
 fn is_full(source: u32, filled: u32) -> bool
@@ -79,38 +67,26 @@ fn is_full(source: u32, filled: u32) -> bool
 }
 
 // TXFLR has no place.
-pub fn space(readings: &[u32], used: usize, log: &mut [u32], entries: usize) -> Polled
-    requires { entries ≤ length log.old / 2 }
-    ensures { ForAny
-        (λ (i : ℕ). Stays (Abort Source (Space i)) readings.now entries used log.old
-        result.entries result.used log.new) }
+pub fn space(recording: &mut Recording) -> bool
+    requires { recording.old.entries ≤ room_of recording.old }
+    ensures stays { ForAny
+        (λ (i : ℕ). Stays (Abort Source (Space i)) recording.old recording.new) }
+    ensures found_nothing { result ≡ true → recording.old.entries < recording.new.entries }
 {
-    if used > readings.len() {
-        return Polled { used, entries };
-    }
-    let mut n = least((log.len() / 2 - entries) / 6, (readings.len() - used) / 3);
-    let mut u = used;
-    let mut k = entries;
-    while 0 < n {
-        let first = readings[u];
-        let second = readings[u + 1];
-        if is_full(first, second) {
-            let mask = readings[u + 2];
-            put_read(log, k, regs::TX_ABRT_SOURCE, first);
-            put_read(log, k + 1, regs::TXFLR, second);
-            put_write(log, k + 2, regs::TX_TL, 1);
-            put_wait(log, k + 3, mask, with_m_tx_abrt(with_m_tx_empty(mask)));
-            u += 3;
-            k += 6;
-            n -= 1;
-        } else {
-            break;
+    if has(recording, 3, 6) {
+        let source = recording.readings[recording.used];
+        let filled = recording.readings[recording.used + 1];
+        if is_full(source, filled) {
+            let mask = recording.readings[recording.used + 2];
+            recording.put_read(regs::TX_ABRT_SOURCE, source);
+            recording.put_read(regs::TXFLR, filled);
+            recording.put_write(regs::TX_TL, 1);
+            put_wait(recording, mask, with_m_tx_abrt(with_m_tx_empty(mask)));
+            recording.used += 3;
+            return true;
         }
     }
-    Polled {
-        used: u,
-        entries: k,
-    }
+    false
 }
 
 fn is_going(source: u32, stat: u32) -> bool
@@ -120,34 +96,22 @@ fn is_going(source: u32, stat: u32) -> bool
 }
 
 // No STOP yet.
-pub fn stop(readings: &[u32], used: usize, log: &mut [u32], entries: usize) -> Polled
-    requires { entries ≤ length log.old / 2 }
-    ensures { Stays (Abort Source (Stop (Ok tt))) readings.now entries used log.old
-        result.entries result.used log.new }
+pub fn stop(recording: &mut Recording) -> bool
+    requires { recording.old.entries ≤ room_of recording.old }
+    ensures stays { Stays (Abort Source (Stop Fine)) recording.old recording.new }
+    ensures found_nothing { result ≡ true → recording.old.entries < recording.new.entries }
 {
-    if used > readings.len() {
-        return Polled { used, entries };
-    }
-    let mut n = least((log.len() / 2 - entries) / 5, (readings.len() - used) / 3);
-    let mut u = used;
-    let mut k = entries;
-    while 0 < n {
-        let first = readings[u];
-        let second = readings[u + 1];
-        if is_going(first, second) {
-            let mask = readings[u + 2];
-            put_read(log, k, regs::TX_ABRT_SOURCE, first);
-            put_read(log, k + 1, regs::RAW_INTR_STAT, second);
-            put_wait(log, k + 2, mask, with_m_tx_abrt(with_m_stop_det(mask)));
-            u += 3;
-            k += 5;
-            n -= 1;
-        } else {
-            break;
+    if has(recording, 3, 5) {
+        let source = recording.readings[recording.used];
+        let stat = recording.readings[recording.used + 1];
+        if is_going(source, stat) {
+            let mask = recording.readings[recording.used + 2];
+            recording.put_read(regs::TX_ABRT_SOURCE, source);
+            recording.put_read(regs::RAW_INTR_STAT, stat);
+            put_wait(recording, mask, with_m_tx_abrt(with_m_stop_det(mask)));
+            recording.used += 3;
+            return true;
         }
     }
-    Polled {
-        used: u,
-        entries: k,
-    }
+    false
 }

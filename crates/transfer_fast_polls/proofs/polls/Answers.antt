@@ -1,16 +1,9 @@
--- `polls`: the match on the point picks the loop, and `at` moves that loop's contract to the point;
--- `empty_awaits` and `stop_awaits` (proofs/AtFlag.antt) say that these two points wait for the flag. At a
--- point where nothing is polled, `still` says that the run stays.
-use mathlib.Core.Path.{ap, ◌∙◌}
-use Rattle.transfer.specs.declared.Point.TheVariants.{WriteBlocking}
-use Rattle.transfer_fast_polls.proofs.AtFlag.{empty_awaits, stop_awaits}
-use Rattle.transfer_fast_polls.proofs.Still.{at}
+-- `polls`: `poll_after` of proofs/Still.antt adds a poll to those before it.
+use Rattle.transfer_fast_polls.proofs.Still.{poll_after}
 use Rattle.transfer_fast_polls.proofs.polls.Goals as goal
 
-pub returns-in-Empty : goal.returns-in-Empty
-returns-in-Empty c = at (c.in-WriteBlocking.is ∙ ap WriteBlocking c.in-Empty.is)
-    (c.polls.ensures _ (empty_awaits _))
+pub loop-p-preserved : goal.loop-p-preserved
+loop-p-preserved c = poll_after c.loop-p.invariant c.poll.ensures.stays
 
-pub returns-in-StopDet : goal.returns-in-StopDet
-returns-in-StopDet c = at (c.in-WriteBlocking.is ∙ ap WriteBlocking c.in-StopDet.is)
-    (c.polls-in-StopDet.ensures _ (stop_awaits _))
+pub returns : goal.returns
+returns c = poll_after c.loop-p.invariant c.poll.ensures.stays

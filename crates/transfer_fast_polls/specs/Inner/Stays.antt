@@ -1,7 +1,11 @@
 -- Polls of a transfer that find nothing: its run comes from a point to the same point, later.
-use Rattle.std.specs.Prelude.{ℕ, Bool, true, false, not, ◌&&◌, List, ◌≡◌, eqb, ltb, None}
+use Rattle.std.specs.Prelude.{ℕ, ◌+◌, ◌≤◌, Bool, true, false, not, ◌&&◌, List, ◌≡◌, eqb, ltb, None}
 use Rattle.regs.specs.Fields.{tx_empty, stop_det, level}
-use Rattle.regs.specs.Registers.{RAW_INTR_STAT}
+use Rattle.regs.specs.Program.{PENDING}
+use Rattle.regs.specs.Registers.{RAW_INTR_STAT, INTR_MASK}
+use Rattle.regs.specs.Inner.Machine.{entered}
+use Rattle.regs.specs.Inner.Recording.{Keeps, room_of}
+use Rattle.regs.specs.declared.access.Recording.{Recording}
 use Rattle.regs.specs.declared.access.Next.TheVariants.{Read}
 use Rattle.transfer.specs.Inner.Points.{with_point}
 use Rattle.transfer.specs.Inner.Machine.{machine, next_at, store_at, step_of}
@@ -11,9 +15,12 @@ use Rattle.transfer.specs.Inner.Machine.{go}
 use Rattle.regs_runs.specs.Inner.Reaches.{Reaches}
 
 -- whatever the transfer is
-pub record Stays (p : Point) (readings : List ℕ) (e u : ℕ) (l : List ℕ) (e' u' : ℕ) (l' : List ℕ) : Type 0 where
+pub record Stays (p : Point) (before after : Recording) : Type 0 where
+  pub keeps : Keeps before after
+  pub room : after.entries ≤ room_of after
   pub reaches : (coded : Bool) (kinds lengths bytes : List ℕ) (t : Transfer) (b : List ℕ)
-      → Reaches (machine coded kinds lengths bytes) readings (with_point t p) e u l b (with_point t p) e' u' l' b
+      → Reaches (machine coded kinds lengths bytes) before.readings.now (with_point t p) before.entries before.used
+      before.log.now b (with_point t p) after.entries after.used after.log.now b
 
 -- ---- RAW_INTR_STAT is read until a flag is set: STOP_DET, or else TX_EMPTY
 
@@ -32,6 +39,10 @@ abbrev pub no_byte : ℕ → ℕ → Bool
 no_byte filled source = eqb (level filled) 0 && eqb source 0
 
 -- ---- the async forms' waits, where nothing was aborted
+
+-- three entries: INTR_MASK, read and set, and the mark
+abbrev pub waited : List ℕ → ℕ → ℕ → ℕ → List ℕ
+waited l k mask set = entered (entered (entered l k (0x100 + INTR_MASK) mask) (k + 1) (0x200 + INTR_MASK) set) (k + 2) (0x300 + PENDING) 0
 
 -- RXFLR has not reached the words of the round
 abbrev pub too_few : ℕ → ℕ → ℕ → Bool

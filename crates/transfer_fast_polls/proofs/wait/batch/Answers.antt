@@ -1,13 +1,23 @@
--- `batch`: the loop's invariant `BatchWaiting` (proofs/Waiting.antt) is a run that returned to RXFLR, with 6
--- entries and 3 readings for each of the n waits to go. Where `is_too_few` holds, `batch_next` adds one wait;
--- every index is in range by those bounds, and n decreases.
-use mathlib.Core.Path.{sym, ◌∙◌}
-use Rattle.transfer_fast_polls.proofs.Waiting.{batch_next}
+-- `batch`: where readings and entries are left and `is_too_few` holds, `batch_waits` of proofs/AtWait.antt is the run
+-- of the machine from the point to itself, and `polled` puts it into the recording.
+use Rattle.std.proofs.Common.{arith, rules, ◌≡◌, ◌+◌, true}
+use lib.ListN.{get_or}
+use Rattle.regs_runs.proofs.Putting.{first_put, next_put}
+use Rattle.regs_runs.proofs.Reach.{stays}
+use Rattle.transfer.specs.Inner.Machine.{machine}
+use Rattle.transfer_fast_polls.specs.Inner.Stays.{too_few}
+use Rattle.transfer_fast_polls.proofs.Still.{polled}
+use Rattle.transfer_fast_polls.proofs.AtWait.{wait_put, batch_waits}
 use Rattle.transfer_fast_polls.proofs.wait.batch.Goals as goal
 
-pub loop-n-preserved : goal.loop-n-preserved
-loop-n-preserved c = batch_next c.loop-n.invariant c.loop-n-test.true
-    (sym c.is_too_few.ensures ∙ c.if-is_too_few.true) c.put_read.ensures
-    c.put_read-then-is_too_few.ensures (rw c.saturating_sub.ensures at c.put_write.ensures)
-    (rw c.with_m_rx_full.ensures at c.with_m_tx_abrt.ensures)
-    c.put_wait.ensures
+pub returns-then-is_too_few-clause-stays : goal.returns-then-is_too_few-clause-stays
+returns-then-is_too_few-clause-stays c = λ x is.
+    let r = c.args.recording.now in
+    let more = c.has.ensures c.if-has.true in
+    let few : too_few x.batch (get_or r.readings.now r.used 0) (get_or r.readings.now (r.used + 1) 0) ≡ true = rw is (search rules) in
+    let write = rw (c.from.ensures, c.less.ensures, ← is) at c.put_write.ensures in
+    polled 3
+    (wait_put _ _ (next_put (next_put (first_put c.put_read.ensures) c.put_read-then-is_too_few.ensures) write)
+    (rw (c.with_m_tx_abrt.ensures, c.with_m_rx_full.ensures) at c.put_wait.ensures)) more.1
+    (λ coded kinds lengths bytes t b. batch_waits coded kinds lengths bytes t
+    (stays (machine coded kinds lengths bytes) r.readings.now c.requires (omega arith)) few more.1 more.0)
