@@ -26,7 +26,7 @@ use Rattle.regs_runs.proofs.Turns.{Turns, turn}
 
 module _ (coded : Bool) (kinds lengths bytes : List ℕ) {readings : List ℕ} (t : Transfer) {s₀ : Transfer} {e₀ u₀ : ℕ}
     {l₀ b₀ : List ℕ} {i e u : ℕ} {l b : List ℕ} where
-  byte_written : Reaches (machine coded kinds lengths bytes) readings s₀ e₀ u₀ l₀ b₀ (with_point t (WriteBlocking (Send i))) e u l b
+  pub byte_written : Reaches (machine coded kinds lengths bytes) readings s₀ e₀ u₀ l₀ b₀ (with_point t (WriteBlocking (Send i))) e u l b
       → e + 3 ≤ length l₀ / 2 → u + 2 ≤ length readings → tx_empty (get_or readings u 0) ≡ true → get_or readings (u + 1) 0 ≡ 0 → i + 1 < t.len
       → Reaches (machine coded kinds lengths bytes) readings s₀ e₀ u₀ l₀ b₀ (with_point t (WriteBlocking (Send (i + 1)))) (e + 3) (u + 2)
       (entered (entered (entered l e (0x200 + DATA_CMD) (command_word (get_or bytes (t.at + i) 0) false false false))
@@ -53,49 +53,3 @@ module _ (coded : Bool) (kinds lengths bytes : List ℕ) {readings : List ℕ} (
         lt-ltb (i + 1) t.len more,
       ) in
       did_read g₂ refl (omega (arith, room)) (omega (arith, left)) a₃ q₃ v₃
-
--- how far the bytes came; the read buffer is not touched
-abbrev pub Came : ℕ → ℕ → ℕ → List ℕ → List ℕ → ℕ → List ℕ → ℕ → ℕ → ℕ → ℕ → List ℕ → Type 0
-Came from len at bytes readings used l₀ entries i u k l =
-    ForAny (λ (restart : Bool). ForAny
-    (λ (buffer : List ℕ). Bursts len at restart bytes readings (WriteBlocking (Send from)) entries used l₀
-    buffer (WriteBlocking (Send i)) k u l buffer))
-
--- the loop's head
-abbrev pub Writing : ℕ → ℕ → ℕ → List ℕ → List ℕ → ℕ → List ℕ → ℕ → List ℕ → ℕ → ℕ → ℕ → ℕ → Type 0
-Writing from len at bytes readings used l₀ entries l n i u k =
-    Turns (λ (i u k : ℕ) (l b : List ℕ). Came from len at bytes readings used l₀ entries i u k l) 3 2 len
-    at readings l₀ bytes l bytes n i u k
-
-pub write_none : {from len at : ℕ} {bytes readings : List ℕ} {used : ℕ} {l : List ℕ} {entries : ℕ}
-    → entries ≤ length l / 2
-    → length l < 2 ^ 64
-    → Came from len at bytes readings used l entries from used entries l
-write_none {bytes = bytes} {readings = readings} has fits = λ restart buffer. record {
-  reaches = λ coded kinds lengths t el ea er. stays (machine coded kinds lengths bytes) readings has fits;
-}
-
-pub write_next : {from len at : ℕ} {bytes readings : List ℕ} {used : ℕ} {l₀ : List ℕ} {entries : ℕ} {l : List ℕ} {n i u k : ℕ}
-    → Writing from len at bytes readings used l₀ entries l n i u k
-    → 0 < n
-    → straight_write (get_or readings u 0) (get_or readings (u + 1) 0) ≡ true
-    → {w : ℕ} {l₁ l₂ l₃ : List ℕ} → w ≡ command_word (get_or bytes (at + i) 0) false false false
-    → l₁ ≡ entered l k (0x200 + DATA_CMD) w → l₂ ≡ entered l₁ (k + 1) (0x100 + RAW_INTR_STAT) (get_or readings u 0)
-    → l₃ ≡ entered l₂ (k + 2) (0x100 + TX_ABRT_SOURCE) (get_or readings (u + 1) 0)
-    → Writing from len at bytes readings used l₀ entries l₃ (n - 1) (i + 1) (u + 2) (k + 3)
-write_next {from} {len} {at} {bytes} {readings} {used} {l₀} {entries} {l} {n} {i} {u} {k} g more straight ew e₁ e₂ e₃ =
-    let both = both_of (tx_empty (get_or readings u 0)) (eqb (get_or readings (u + 1) 0) 0) straight in
-    let has_room : k + 3 ≤ length l₀ / 2 = omega (arith, g.room, more) in
-    let has_left : u + 2 ≤ length readings = omega (arith, g.left, more) in
-    let next : i + 1 < len = omega (arith, g.short, more) in
-    turn g more
-    (λ restart buffer. record {
-      reaches = λ coded kinds lengths t el ea er.
-          rw (e₃, e₂, e₁, ew, ← ea)
-          (byte_written coded kinds lengths bytes t ((g.came restart buffer).reaches coded kinds lengths t el ea er) has_room
-          has_left both.0 (eqb-true (get_or readings (u + 1) 0) 0 both.1) (rw el next));
-    })
-    (omega (arith, g.room, more))
-    (omega (arith, g.left, more))
-    (rw (e₃, e₂, e₁) (simp length-set))
-    refl

@@ -12,48 +12,17 @@ ghost use Rattle.regs.specs.Fields.{level};
 
 use regs::fields::level_of;
 
-// How far a burst came: the byte that is next, the readings used and the entries in the log.
-#[derive(Clone, Copy)]
-pub struct Burst {
-    pub index: u16,
-    pub used: usize,
-    pub entries: usize,
-}
-
-// Whether byte i is one of an operation's, its bytes have their places, but perhaps the last one, and
-// the readings were there. The last byte of a coded transfer is its code, which is past the lent slice.
-pub fn is_within(i: u16, len: u16, at: usize, length: usize, used: usize, count: usize) -> bool
-    ensures { result ≡ true → (i < len) × (at + len ≤ length + 1) × (used ≤ count) }
+// Whether byte i is one of an operation's, and its bytes have their places, but perhaps the last
+// one: the last byte of a coded transfer is its code, which is past the lent slice.
+pub fn is_within(i: u16, len: u16, at: usize, length: usize) -> bool
+    ensures { result ≡ true → (i < len) × (at + len ≤ length + 1) }
 {
-    if i >= len {
-        return false;
-    }
-    if used > count {
-        return false;
-    }
-    if at > length {
-        return false;
-    }
-    len as usize - 1 <= length - at
+    i < len && at <= length && usize::from(len) - 1 <= length - at
 }
 
 // The places of the transmit FIFO that are free by TXFLR: a round of an async operation fills them.
 pub fn free(v: u32) -> u16
     ensures { result ≡ 16 - level v }
 {
-    let n = level_of(v);
-    if n < 16 { (16 - n) as u16 } else { 0 }
-}
-
-// How many bytes may go straight: before the last one, and as many as there are entries and readings for.
-fn ahead(from: u16, len: u16, entries: usize, readings: usize) -> usize
-    requires { from < len }
-    ensures { (result + from + 1 ≤ len)
-        × (result ≤ entries)
-        × (result ≤ readings) }
-{
-    counts::least(
-        len as usize - 1 - from as usize,
-        counts::least(entries, readings),
-    )
+    16u16.saturating_sub(u16::from(level_of(v)))
 }

@@ -1,13 +1,16 @@
 // `write_blocking_internal`: the word is written, RAW_INTR_STAT says
 // that it was sent, and TX_ABRT_SOURCE that nothing was aborted.
-ghost use Rattle.std.specs.Prelude.{Bool, List, ◌≡◌, ℕ, ◌+◌, ◌/◌, ◌<◌, ◌≤◌, length};
+ghost use Rattle.std.specs.Prelude.{List, true, false, ◌≡◌, ℕ, ◌+◌, ◌<◌, ◌≤◌, length};
+ghost use Rattle.regs.specs.Inner.Recording.{room_of};
 ghost use Rattle.transfer.specs.declared.Point.TheVariants.{WriteBlocking};
 ghost use Rattle.transfer.specs.declared.WritePoint.TheVariants.{Send};
 ghost use Rattle.transfer_fast_blocking.specs.Inner.Bursts.{Bursts, ForAny, straight_write};
 
-use super::{Burst, ahead, is_within};
+use super::is_within;
+use regs::access::Recording;
 use regs::fields::{has_tx_empty, word_of};
-use regs_runs::{put_read, put_write};
+use regs_runs::has;
+use transfer::Transfer;
 
 fn is_straight(stat: u32, source: u32) -> bool
     ensures { result ≡ straight_write stat source }
@@ -15,84 +18,63 @@ fn is_straight(stat: u32, source: u32) -> bool
     has_tx_empty(stat) & (source == 0)
 }
 
-// Byte after byte; the last one is the machine's.
-fn run(
-    from: u16,
-    len: u16,
-    at: usize,
-    bytes: &[u8],
-    readings: &[u32],
-    used: usize,
-    log: &mut [u32],
-    entries: usize,
-) -> Burst
-    requires { (from < len)
-        × (at + len ≤ length bytes.now + 1)
-        × (used ≤ length readings.now)
-        × (entries ≤ length log.old / 2) }
-    ensures { ForAny
-        (λ (restart : Bool). ForAny
-        (λ (buffer : List ℕ). Bursts len at restart bytes.now readings.now
-        (WriteBlocking (Send from)) entries used log.old buffer (WriteBlocking (Send result.index))
-        result.entries result.used log.new buffer)) }
+// Byte i, where the readings lead straight on; it is not the last one.
+fn byte(t: Transfer, i: u16, bytes: &[u8], recording: &mut Recording) -> bool
+    requires { (i + 1 < t.len)
+        × (t.at + t.len ≤ length bytes.now + 1)
+        × (recording.old.entries ≤ room_of recording.old) }
+    ensures sent { result ≡ true
+        → ForAny
+        (λ (buffer : List ℕ). Bursts t bytes.now recording.old buffer (WriteBlocking (Send i))
+        recording.new buffer (WriteBlocking (Send (i + 1)))) }
+    ensures left { result ≡ false
+        → ForAny
+        (λ (buffer : List ℕ). Bursts t bytes.now recording.old buffer (WriteBlocking (Send i))
+        recording.new buffer (WriteBlocking (Send i))) }
 {
-    let mut n = ahead(
-        from,
-        len,
-        (log.len() / 2 - entries) / 3,
-        (readings.len() - used) / 2,
-    );
-    let mut i = from;
-    let mut u = used;
-    let mut k = entries;
-    while 0 < n {
-        let stat = readings[u];
-        let source = readings[u + 1];
+    if has(recording, 2, 3) {
+        let stat = recording.readings[recording.used];
+        let source = recording.readings[recording.used + 1];
         if is_straight(stat, source) {
-            let w = word_of(bytes[at + i as usize], false, false, false);
-            put_write(log, k, regs::DATA_CMD, w);
-            put_read(log, k + 1, regs::RAW_INTR_STAT, stat);
-            put_read(log, k + 2, regs::TX_ABRT_SOURCE, source);
-            i += 1;
-            u += 2;
-            k += 3;
-            n -= 1;
-        } else {
-            break;
+            let w = word_of(bytes[t.at + usize::from(i)], false, false, false);
+            recording.put_write(regs::DATA_CMD, w);
+            recording.put_read(regs::RAW_INTR_STAT, stat);
+            recording.put_read(regs::TX_ABRT_SOURCE, source);
+            recording.used += 2;
+            return true;
         }
     }
-    Burst {
-        index: i,
-        used: u,
-        entries: k,
-    }
+    false
 }
 
-// The bytes from one on, where they are within the buffer.
-pub fn burst(
-    from: u16,
-    len: u16,
-    at: usize,
-    bytes: &[u8],
-    readings: &[u32],
-    used: usize,
-    log: &mut [u32],
-    entries: usize,
-) -> Burst
-    requires { entries ≤ length log.old / 2 }
+// Byte after byte, up to the one that is next; the last one is the machine's.
+fn run(t: Transfer, from: u16, bytes: &[u8], recording: &mut Recording) -> u16
+    requires { (from < t.len)
+        × (t.at + t.len ≤ length bytes.now + 1)
+        × (recording.old.entries ≤ room_of recording.old) }
     ensures { ForAny
-        (λ (restart : Bool). ForAny
-        (λ (buffer : List ℕ). Bursts len at restart bytes.now readings.now
-        (WriteBlocking (Send from)) entries used log.old buffer (WriteBlocking (Send result.index))
-        result.entries result.used log.new buffer)) }
+        (λ (buffer : List ℕ). Bursts t bytes.now recording.old buffer (WriteBlocking (Send from))
+        recording.new buffer (WriteBlocking (Send result))) }
 {
-    if is_within(from, len, at, bytes.len(), used, readings.len()) {
-        run(from, len, at, bytes, readings, used, log, entries)
-    } else {
-        Burst {
-            index: from,
-            used,
-            entries,
+    let last = t.len - 1;
+    for i in from..last {
+        if !byte(t, i, bytes, recording) {
+            return i;
         }
+    }
+    last
+}
+
+// The bytes from one on, where they are within the buffer, up to the one that is next.
+pub fn burst(t: Transfer, from: u16, bytes: &[u8], recording: &mut Recording) -> u16
+    requires { recording.old.entries ≤ room_of recording.old }
+    ensures { ForAny
+        (λ (buffer : List ℕ). Bursts t bytes.now recording.old buffer (WriteBlocking (Send from))
+        recording.new buffer (WriteBlocking (Send result))) }
+{
+    if is_within(from, t.len, t.at, bytes.len()) {
+        run(t, from, bytes, recording)
+    } else {
+        from
     }
 }

@@ -1,17 +1,24 @@
--- A burst: the run of a transfer comes from one point to another within one operation, whatever the transfer's other operations are.
-use Rattle.std.specs.Prelude.{ℕ, Bool, not, ◌&&◌, List, ◌≡◌, eqb, ltb}
+-- A burst: the run of a transfer comes from one point to another within one operation,
+-- whatever the transfer's other operations are.
+use Rattle.std.specs.Prelude.{ℕ, Bool, not, ◌&&◌, List, ◌≡◌, ◌≤◌, eqb, ltb, length}
 use Rattle.regs.specs.Fields.{level, tx_empty}
+use Rattle.regs.specs.Inner.Recording.{Keeps, room_of}
+use Rattle.regs.specs.declared.access.Recording.{Recording}
 use Rattle.transfer.specs.Inner.Points.{with_point}
 use Rattle.transfer.specs.Inner.Machine.{machine}
 use Rattle.transfer.specs.declared.Transfer.{Transfer}
 use Rattle.transfer.specs.declared.Point.{Point}
 use Rattle.regs_runs.specs.Inner.Reaches.{Reaches}
 
--- of a transfer whose operation has `len` bytes from `at` on
-pub record Bursts (len at : ℕ) (restart : Bool) (bytes readings : List ℕ) (p : Point) (e u : ℕ) (l b : List ℕ)
-    (p' : Point) (e' u' : ℕ) (l' b' : List ℕ) : Type 0 where
-  pub reaches : (coded : Bool) (kinds lengths : List ℕ) (t : Transfer) → t.len ≡ len → t.at ≡ at → t.restart ≡ restart
-      → Reaches (machine coded kinds lengths bytes) readings (with_point t p) e u l b (with_point t p') e' u' l' b'
+-- at a point, with what is recorded and the buffer; and at the point, the recording and the buffer that it comes to
+pub record Bursts (t : Transfer) (bytes : List ℕ) (before : Recording) (b : List ℕ) (p : Point)
+    (after : Recording) (b' : List ℕ) (p' : Point) : Type 0 where
+  pub keeps : Keeps before after
+  pub room : after.entries ≤ room_of after
+  pub size : length b' ≡ length b
+  pub reaches : (coded : Bool) (kinds lengths : List ℕ)
+      → Reaches (machine coded kinds lengths bytes) before.readings.now (with_point t p) before.entries before.used
+      before.log.now b (with_point t p') after.entries after.used after.log.now b'
 
 -- a burst is the same whatever it does not look at
 abbrev pub ForAny : {A : Type 0} → (A → Type 0) → Type 0

@@ -1,12 +1,20 @@
--- `run`: the loop's invariant `Reading` (proofs/Reading.antt) is a run of the machine up to byte i, with
--- places, 4 entries and 3 readings for each of the n bytes to go. `is_straight` decides that `read_next`
--- extends it by one byte; every index is in range by those bounds, and n decreases.
-use mathlib.Core.Path.{sym, ◌∙◌}
-use Rattle.transfer_fast_blocking.proofs.Reading.{read_next}
+-- `run`: `burst_after` of proofs/Bursting.antt adds a byte to the burst so far, or the byte that is left.
+use Rattle.std.proofs.Common.{arith, ◌≡◌, ◌-◌, []}
+use Rattle.transfer_fast_blocking.proofs.Bursting.{burst_after}
 use Rattle.transfer_fast_blocking.proofs.read_blocking.run.Goals as goal
 
-pub loop-n-preserved : goal.loop-n-preserved
-loop-n-preserved c = read_next c.loop-n.invariant c.loop-n-test.true
-    (sym c.is_straight.ensures ∙ c.if-is_straight.true) c.word_of-w.ensures
-    c.put_read.ensures c.put_write.ensures c.put_read-then-is_straight.ensures
-    c.put_read-then-is_straight-2.ensures (rw c.byte_of.ensures)
+pub byte-requires : goal.byte-requires
+byte-requires c =
+    let g = c.loop-i.invariant [] in
+    (omega (arith, c.loop-i-test.true), rw g.size c.requires.1, g.room)
+
+pub returns-then-not-byte : goal.returns-then-not-byte
+returns-then-not-byte c = λ bytes. burst_after (c.loop-i.invariant bytes) (c.byte.ensures.left c.if-not-byte.true bytes)
+
+pub loop-i-preserved : goal.loop-i-preserved
+loop-i-preserved c = λ bytes. burst_after (c.loop-i.invariant bytes) (c.byte.ensures.taken c.if-not-byte.false bytes)
+
+pub returns : goal.returns
+returns c = λ bytes.
+    let all : c.loop-i.i ≡ c.args.t.len - 1 = omega (arith, c.loop-i-test.false, c.loop-i.auto.i-end, c.requires.0) in
+    rw (← all) (c.loop-i.invariant bytes)

@@ -1,11 +1,15 @@
--- `run`: the loop's invariant `Writing` (proofs/Writing.antt) is a run of the machine up to byte i, with
--- places, 3 entries and 2 readings for each of the n bytes to go. `is_straight` decides that `write_next`
--- extends it by one byte; every index is in range by those bounds, and n decreases.
-use mathlib.Core.Path.{sym, ◌∙◌}
-use Rattle.transfer_fast_blocking.proofs.Writing.{write_next}
+-- `run`: `burst_after` of proofs/Bursting.antt adds a byte to the burst so far, or the byte that is left.
+use Rattle.std.proofs.Common.{arith, ◌≡◌, ◌-◌}
+use Rattle.transfer_fast_blocking.proofs.Bursting.{burst_after}
 use Rattle.transfer_fast_blocking.proofs.write_blocking.run.Goals as goal
 
-pub loop-n-preserved : goal.loop-n-preserved
-loop-n-preserved c = write_next c.loop-n.invariant c.loop-n-test.true
-    (sym c.is_straight.ensures ∙ c.if-is_straight.true) c.word_of-w.ensures
-    c.put_write.ensures c.put_read.ensures c.put_read-then-is_straight.ensures
+pub returns-then-not-byte : goal.returns-then-not-byte
+returns-then-not-byte c = λ buffer. burst_after (c.loop-i.invariant buffer) (c.byte.ensures.left c.if-not-byte.true buffer)
+
+pub loop-i-preserved : goal.loop-i-preserved
+loop-i-preserved c = λ buffer. burst_after (c.loop-i.invariant buffer) (c.byte.ensures.sent c.if-not-byte.false buffer)
+
+pub returns : goal.returns
+returns c = λ buffer.
+    let all : c.loop-i.i ≡ c.args.t.len - 1 = omega (arith, c.loop-i-test.false, c.loop-i.auto.i-end, c.requires.0) in
+    rw (← all) (c.loop-i.invariant buffer)

@@ -1,12 +1,12 @@
--- `run`: the loop's invariant `Writing` (proofs/Writing.antt) is a run of the machine up to byte i, with
--- places, 3 entries and 2 readings for each of the n bytes to go. `is_straight` decides that `write_next`
--- extends it by one byte; every index is in range by those bounds, and n decreases.
-use Rattle.transfer_fast_blocking.proofs.Writing.{Writing}
+-- `run`: the loop's invariant is the burst up to byte i.
+use mathlib.Core.List.{List}
+use Prim.Native.Nat.{ℕ}
+use Rattle.transfer.specs.declared.Point.TheVariants.{WriteBlocking}
+use Rattle.transfer.specs.declared.WritePoint.TheVariants.{Send}
+use Rattle.transfer_fast_blocking.specs.Inner.Bursts.{Bursts, ForAny}
 use Rattle.transfer_fast_blocking.proofs.write_blocking.run.Given as goal
 
-abbrev pub invariant-loop-n : goal.invariant-loop-n
-invariant-loop-n l =
-    Writing l.from l.len l.at l.bytes l.readings l.used l.initial.log l.entries l.log l.n l.i l.u l.k
-
-abbrev pub decreases-loop-n : goal.decreases-loop-n
-decreases-loop-n l = l.n
+abbrev pub invariant-loop-i : goal.invariant-loop-i
+invariant-loop-i l =
+    ForAny (λ (buffer : List ℕ). Bursts l.t l.bytes l.initial.recording buffer (WriteBlocking (Send l.from))
+    l.recording buffer (WriteBlocking (Send l.i)))

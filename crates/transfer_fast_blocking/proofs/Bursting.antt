@@ -1,0 +1,48 @@
+-- No burst, one burst after the other, and a burst's entries with its readings.
+use Prim.Native.Nat.{ℕ, ◌+◌, ◌/◌, ◌<◌, ◌≤◌, ◌^◌}
+use mathlib.Core.Bool.{Bool}
+use mathlib.Core.List.{List}
+use mathlib.Core.Path.{◌≡◌, refl, ◌∙◌}
+use lib.ListN.{length}
+use Rattle.regs.specs.declared.access.Recording.{Recording}
+use Rattle.transfer.specs.Inner.Machine.{machine}
+use Rattle.transfer.specs.Inner.Points.{with_point}
+use Rattle.transfer.specs.declared.Transfer.{Transfer}
+use Rattle.transfer.specs.declared.Point.{Point}
+use Rattle.regs_runs.specs.Inner.Puts.{Puts}
+use Rattle.regs_runs.specs.Inner.Reaches.{Reaches}
+use Rattle.regs_runs.proofs.Reach.{stays, then, keeps_all, keeps_on}
+use Rattle.transfer_fast_blocking.specs.Inner.Bursts.{Bursts}
+
+module _ {t : Transfer} {bytes : List ℕ} where
+  pub no_burst : {p : Point} {r : Recording} {b : List ℕ} → r.entries ≤ length r.log.now / 2 → length r.log.now < 2 ^ 64
+      → Bursts t bytes r b p r b p
+  no_burst {r = r} room fits = record {
+    keeps = keeps_all;
+    room = room;
+    size = refl;
+    reaches = λ coded kinds lengths. stays (machine coded kinds lengths bytes) r.readings.now room fits;
+  }
+
+  pub burst_after : {p p₁ p₂ : Point} {r r₁ r₂ : Recording} {b b₁ b₂ : List ℕ}
+      → Bursts t bytes r b p r₁ b₁ p₁ → Bursts t bytes r₁ b₁ p₁ r₂ b₂ p₂ → Bursts t bytes r b p r₂ b₂ p₂
+  burst_after x y = record {
+    keeps = keeps_on x.keeps y.keeps;
+    room = y.room;
+    size = y.size ∙ x.size;
+    reaches = λ coded kinds lengths. then (x.reaches coded kinds lengths) (rw x.keeps.readings at (y.reaches coded kinds lengths));
+  }
+
+  pub burst_put : (m : ℕ) {p p' : Point} {before mid : Recording} {b b' : List ℕ} {n : ℕ} {l : List ℕ} → Puts before n l mid
+      → before.entries + n ≤ length before.log.now / 2
+      → length b' ≡ length b
+      → ((coded : Bool) (kinds lengths : List ℕ)
+      → Reaches (machine coded kinds lengths bytes) before.readings.now (with_point t p) before.entries before.used
+      before.log.now b (with_point t p') (before.entries + n) (before.used + m) l b')
+      → Bursts t bytes before b p (record mid { used = mid.used + m }) b' p'
+  burst_put m put room size run = record {
+    keeps = record { readings = put.keeps.readings; loan = put.keeps.loan; size = put.keeps.size };
+    room = rw (put.entries, put.keeps.size) room;
+    size = size;
+    reaches = λ coded kinds lengths. rw (put.entries, put.used, put.log) (run coded kinds lengths);
+  }
