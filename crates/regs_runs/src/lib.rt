@@ -5,6 +5,7 @@
 ghost use Rattle.std.specs.Prelude.{true, ◌≡◌, ◌+◌, ◌/◌, ◌<◌, ◌≤◌, length};
 ghost use Rattle.regs.specs.Inner.Machine.{entered};
 ghost use Rattle.regs.specs.Inner.Recording.{room_of};
+ghost use Rattle.regs_runs.specs.Inner.Puts.{Reads};
 
 use regs::access::Recording;
 
@@ -21,6 +22,18 @@ pub fn has(recording: &Recording, readings: usize, entries: usize) -> bool
         .checked_sub(recording.used)
         .is_some_and(|left| readings <= left);
     has_readings && entries <= recording.log.len() / 2 - recording.entries
+}
+
+// Reads a register, where a reading is left and the log has room.
+pub fn read(recording: &mut Recording, register: u8) -> u32
+    requires { (recording.old.used < length recording.old.readings.now)
+        × (recording.old.entries < room_of recording.old) }
+    ensures { Reads recording.old register result recording.new }
+{
+    let v = recording.readings[recording.used];
+    recording.put_read(register, v);
+    recording.used += 1;
+    v
 }
 
 // Entry k of a log.

@@ -4,6 +4,7 @@ use mathlib.Core.Bool.{Bool}
 use mathlib.Core.List.{List}
 use mathlib.Core.Path.{◌≡◌, refl, ◌∙◌}
 use lib.ListN.{length}
+use Rattle.regs.specs.Inner.Recording.{Keeps}
 use Rattle.regs.specs.declared.access.Recording.{Recording}
 use Rattle.transfer.specs.Inner.Machine.{machine}
 use Rattle.transfer.specs.Inner.Points.{with_point}
@@ -33,6 +34,25 @@ module _ {t : Transfer} {bytes : List ℕ} where
     reaches = λ coded kinds lengths. then (x.reaches coded kinds lengths) (rw x.keeps.readings at (y.reaches coded kinds lengths));
   }
 
+  -- what was recorded and done in a burst
+  pub burst_of : {p p' : Point} {before after : Recording} {b b' : List ℕ} {e u : ℕ} {l : List ℕ}
+      → Keeps before after
+      → after.entries ≡ e
+      → after.used ≡ u
+      → after.log.now ≡ l
+      → e ≤ length before.log.now / 2
+      → length b' ≡ length b
+      → ((coded : Bool) (kinds lengths : List ℕ)
+      → Reaches (machine coded kinds lengths bytes) before.readings.now (with_point t p) before.entries before.used
+      before.log.now b (with_point t p') e u l b')
+      → Bursts t bytes before b p after b' p'
+  burst_of keeps entries used log room size run = record {
+    keeps = keeps;
+    room = rw (entries, keeps.size) room;
+    size = size;
+    reaches = λ coded kinds lengths. rw (entries, used, log) (run coded kinds lengths);
+  }
+
   pub burst_put : (m : ℕ) {p p' : Point} {before mid : Recording} {b b' : List ℕ} {n : ℕ} {l : List ℕ} → Puts before n l mid
       → before.entries + n ≤ length before.log.now / 2
       → length b' ≡ length b
@@ -40,9 +60,6 @@ module _ {t : Transfer} {bytes : List ℕ} where
       → Reaches (machine coded kinds lengths bytes) before.readings.now (with_point t p) before.entries before.used
       before.log.now b (with_point t p') (before.entries + n) (before.used + m) l b')
       → Bursts t bytes before b p (record mid { used = mid.used + m }) b' p'
-  burst_put m put room size run = record {
-    keeps = record { readings = put.keeps.readings; loan = put.keeps.loan; size = put.keeps.size };
-    room = rw (put.entries, put.keeps.size) room;
-    size = size;
-    reaches = λ coded kinds lengths. rw (put.entries, put.used, put.log) (run coded kinds lengths);
-  }
+  burst_put m put room size run = burst_of
+      (record { readings = put.keeps.readings; loan = put.keeps.loan; size = put.keeps.size })
+      put.entries (rw put.used) put.log room size run

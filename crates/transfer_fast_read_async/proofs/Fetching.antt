@@ -3,7 +3,7 @@ use Prim.Native.Nat.{ℕ, ◌+◌, ◌/◌, ◌-◌, ◌%◌, ◌<◌, ◌≤◌
 use native.Mathlib.Omega.{arith}
 use mathlib.Core.Bool.{Bool, false}
 use mathlib.Core.List.{List}
-use mathlib.Core.Path.{◌≡◌, refl}
+use mathlib.Core.Path.{◌≡◌, refl, ◌∙◌}
 use lib.Dec.{eqb}
 use lib.ListN.{length, length-set, get_or, set}
 use borrow.Author.Tests.{ne_eqb}
@@ -11,6 +11,8 @@ use Rattle.std.specs.Prelude.{if◌then◌else◌}
 use Rattle.regs.specs.Registers.{DATA_CMD}
 use Rattle.regs.specs.Fields.{dat}
 use Rattle.regs.specs.Inner.Machine.{entered}
+use Rattle.regs.specs.Inner.Recording.{Keeps}
+use Rattle.regs.specs.declared.access.Recording.{Recording}
 use Rattle.transfer.specs.Inner.Points.{with_point}
 use Rattle.transfer.specs.Inner.Machine.{machine, next_at, next_round, store_at, store_round, step_of, step_round, fetching, next_turn}
 use Rattle.transfer.specs.declared.Transfer.{Transfer}
@@ -19,7 +21,10 @@ use Rattle.transfer.specs.declared.Point.TheVariants.{ReadAsync}
 use Rattle.transfer.specs.declared.Round.{Round}
 use Rattle.transfer.specs.declared.RoundPoint.TheVariants.{Capacity, Fetch}
 use Rattle.regs_runs.specs.Inner.Reaches.{Reaches}
-use Rattle.regs_runs.proofs.Reach.{stays, did_read}
+use Rattle.regs_runs.specs.Inner.Puts.{Reads}
+use Rattle.regs_runs.proofs.Reach.{stays, keeps_all, keeps_on, did_read}
+use Rattle.transfer_fast_blocking.specs.Inner.Bursts.{Bursts}
+use Rattle.transfer_fast_blocking.proofs.Bursting.{no_burst, burst_after, burst_of}
 use Rattle.transfer_fast_read_async.specs.Inner.Rounds.{round, Fetched}
 use Rattle.transfer_fast_read_async.proofs.Chosen.{chosen}
 
@@ -29,7 +34,7 @@ fetched r left = if eqb left 0 then ReadAsync (Capacity r) else ReadAsync (Fetch
 
 module _ (coded : Bool) (kinds lengths bytes : List ℕ) {readings : List ℕ} (t : Transfer) {s₀ : Transfer} {e₀ u₀ : ℕ}
     {l₀ b₀ : List ℕ} (remaining queue batch left place : ℕ) {e u : ℕ} {l b : List ℕ} where
-  byte_fetched : Reaches (machine coded kinds lengths bytes) readings s₀ e₀ u₀ l₀ b₀
+  pub byte_fetched : Reaches (machine coded kinds lengths bytes) readings s₀ e₀ u₀ l₀ b₀
       (with_point t (fetched (round remaining queue batch) left)) e u l b
       → 0 < left
       → 0 < remaining
@@ -51,97 +56,72 @@ module _ (coded : Bool) (kinds lengths bytes : List ℕ) {readings : List ℕ} (
       (ReadAsync (Fetch (round remaining queue batch) (left - 1)))) in
       rw to at (did_read at refl room has next refl refl)
 
--- the loop's head
-pub record Fetching (remaining n len at : ℕ) (readings : List ℕ) (u₀ : ℕ) (l₀ : List ℕ) (e₀ : ℕ) (b₀ l b : List ℕ)
-    (place left u e : ℕ) : Type 0 where
-  pub came : (coded : Bool) (kinds lengths bytes : List ℕ) (t : Transfer) (queue batch : ℕ) → t.len ≡ len → t.at ≡ at
-      → Reaches (machine coded kinds lengths bytes) readings
-      (with_point t (ReadAsync (Fetch (round remaining queue batch) n))) e₀ u₀ l₀ b₀
-      (with_point t (fetched (round remaining queue batch) left)) e u l b
-  pub some : 0 < remaining
-  pub within : remaining + n ≤ len
-  pub few : left ≤ n
-  pub stored : place + remaining + left ≡ at + len
-  pub counted : e + left ≡ e₀ + n
-  pub taken : u + left ≡ u₀ + n
-  pub held : at + len ≤ length b₀ + 1
-  pub room : e₀ + n ≤ length l₀ / 2
-  pub has : u₀ + n ≤ length readings
-  pub long : length l ≡ length l₀
-  pub wide : length b ≡ length b₀
-  pub fits : (length b₀ < 2 ^ 64) × (length l₀ < 2 ^ 64) × (length readings < 2 ^ 64)
+-- the loop's head: so many bytes of the round are fetched
+pub record Fetching (t : Transfer) (remaining count : ℕ) (before : Recording) (b : List ℕ) (n : ℕ) (after : Recording) (b' : List ℕ) : Type 0 where
+  pub came : (bytes : List ℕ) (queue batch : ℕ)
+      → Bursts t bytes before b (ReadAsync (Fetch (round remaining queue batch) count)) after b'
+      (fetched (round remaining queue batch) (count - n))
+  pub entries : after.entries ≡ before.entries + n
+  pub used : after.used ≡ before.used + n
+  pub keeps : Keeps before after
+  pub wide : length b' ≡ length b
 
-module _ {remaining n len at : ℕ} {readings : List ℕ} {u₀ : ℕ} {l₀ : List ℕ} {e₀ : ℕ} {b₀ : List ℕ} where
-  pub none_fetched : {place : ℕ}
-      → 0 < n
+module _ {t : Transfer} {remaining count : ℕ} {before : Recording} {b : List ℕ} where
+  pub none_fetched : 0 < count → before.entries ≤ length before.log.now / 2 → length before.log.now < 2 ^ 64
+      → Fetching t remaining count before b 0 before b
+  none_fetched some room fits = record {
+    came = λ bytes queue batch.
+        let all : count - 0 ≡ count = omega arith in
+        rw (all, ne_eqb count 0 (λ (z : count ≡ 0). omega (arith, some, z))) (no_burst room fits);
+    entries = omega arith;
+    used = omega arith;
+    keeps = keeps_all;
+    wide = refl;
+  }
+
+  pub one_fetched : {mid after : Recording} {b₁ b' : List ℕ} {n v : ℕ}
+      → Fetching t remaining count before b n mid b₁
+      → n < count
       → 0 < remaining
-      → remaining + n ≤ len
-      → at + len ≤ length b₀ + 1
-      → u₀ + n ≤ length readings
-      → e₀ + n ≤ length l₀ / 2
-      → length b₀ < 2 ^ 64
-      → length l₀ < 2 ^ 64
-      → length readings < 2 ^ 64
-      → place ≡ at + (len - remaining - n)
-      → Fetching remaining n len at readings u₀ l₀ e₀ b₀ l₀ b₀ place n u₀ e₀
-  none_fetched some remains within held has room fits fits_log fits_readings to =
+      → remaining + count ≤ t.len
+      → t.at + t.len ≤ length b + 1
+      → length b < 2 ^ 64
+      → before.used + count ≤ length before.readings.now
+      → before.entries + count ≤ length before.log.now / 2
+      → length before.log.now < 2 ^ 64
+      → Reads mid DATA_CMD v after
+      → b' ≡ set b₁ (t.at + (t.len - remaining - count) + n) (dat v)
+      → Fetching t remaining count before b (n + 1) after b'
+  one_fetched {mid} {after} {b₁} {b'} {n} {v} g more some within held small left room fits x eb =
+      let fewer : count - n - 1 ≡ count - (n + 1) = omega arith in
+      let place : ℕ = t.at + (t.len - remaining - count) + n in
+      let to : (t.at + (t.len - remaining - (count - n))) % 2 ^ 64 ≡ place =
+          let exact : t.at + (t.len - remaining - (count - n)) ≡ place = omega (arith, within, more) in
+          let low : place < 2 ^ 64 = omega (arith, within, more, some, held, small) in
+          rw exact (omega (arith, low)) in
+      let space : mid.entries < length mid.log.now / 2 = rw g.keeps.size (omega (arith, g.entries, room, more)) in
+      let has : mid.used < length mid.readings.now = rw g.keeps.readings (omega (arith, g.used, left, more)) in
+      let short : length mid.log.now < 2 ^ 64 = rw g.keeps.size fits in
+      let wide : length b' ≡ length b₁ = rw eb (simp length-set) in
       record {
-        came = λ coded kinds lengths bytes t queue batch el ea. rw (ne_eqb n 0 (λ (z : n ≡ 0). omega (arith, some, z)))
-            (stays (machine coded kinds lengths bytes) readings (omega (arith, room)) fits_log);
-        some = remains;
-        within = within;
-        few = omega arith;
-        stored = omega (arith, to, within);
-        counted = refl;
-        taken = refl;
-        held = held;
-        room = room;
-        has = has;
-        long = refl;
-        wide = refl;
-        fits = (fits, fits_log, fits_readings);
+        came = λ bytes queue batch. burst_after (g.came bytes queue batch)
+            (rw (← fewer) (burst_of x.keeps x.entries x.used x.log (omega (arith, space)) wide
+            (λ coded kinds lengths. rw (eb, x.value) (byte_fetched coded kinds lengths bytes t remaining queue batch (count - n) place
+            (stays (machine coded kinds lengths bytes) mid.readings.now (omega (arith, space)) short)
+            (omega (arith, more)) some space has to))));
+        entries = omega (arith, x.entries, g.entries);
+        used = omega (arith, x.used, g.used);
+        keeps = keeps_on g.keeps x.keeps;
+        wide = wide ∙ g.wide;
       }
 
-  pub one_fetched : {l b : List ℕ} {place left u e : ℕ}
-      → Fetching remaining n len at readings u₀ l₀ e₀ b₀ l b place left u e
-      → 0 < left
-      → {l' b' : List ℕ}
-      → l' ≡ entered l e (0x100 + DATA_CMD) (get_or readings u 0) → b' ≡ set b place (dat (get_or readings u 0))
-      → Fetching remaining n len at readings u₀ l₀ e₀ b₀ l' b' (place + 1) (left - 1) (u + 1) (e + 1)
-  one_fetched {l} {b} {place} {left} {u} {e} g more el' eb' =
-      let to : (at + (len - remaining - left)) % 2 ^ 64 ≡ place =
-      let exact : at + (len - remaining - left) ≡ place = omega (arith, g.stored, g.within, g.few) in
-      let small : place < 2 ^ 64 = omega (arith, g.stored, g.some, g.held, g.fits.0) in
-      rw exact (omega (arith, small)) in
+  pub all_fetched : {after : Recording} {b' : List ℕ} {n : ℕ} → Fetching t remaining count before b n after b' → n ≡ count
+      → Fetched t remaining count before b after b'
+  all_fetched {n = n} g z =
+      let none : count - n ≡ 0 = omega (arith, z) in
       record {
-        came = λ coded kinds lengths bytes t queue batch el ea.
-            rw (el', eb')
-            (byte_fetched coded kinds lengths bytes t remaining queue batch left place
-            (g.came coded kinds lengths bytes t queue batch el ea) more g.some
-            (omega (arith, g.counted, g.room, more)) (omega (arith, g.taken, g.has, more))
-            (rw (el, ea) to));
-        some = g.some;
-        within = g.within;
-        few = omega (arith, g.few);
-        stored = omega (arith, g.stored, more);
-        counted = omega (arith, g.counted, more);
-        taken = omega (arith, g.taken, more);
-        held = g.held;
-        room = g.room;
-        has = g.has;
-        long = rw el' (simp length-set g.long);
-        wide = rw eb' (simp length-set g.wide);
-        fits = g.fits;
-      }
-
-  pub all_fetched : {l b : List ℕ} {place left u e : ℕ}
-      → Fetching remaining n len at readings u₀ l₀ e₀ b₀ l b place left u e
-      → left ≡ 0
-      → Fetched len at readings remaining n e₀ u₀ l₀ b₀ l b
-  all_fetched {left = left} {u = u} {e = e} g z =
-      let ee : e₀ + n ≡ e = omega (arith, g.counted, z) in
-      let eu : u₀ + n ≡ u = omega (arith, g.taken, z) in
-      record {
-        reaches = λ coded kinds lengths bytes t queue batch el ea. rw (ee, eu)
-            (rw z at (g.came coded kinds lengths bytes t queue batch el ea));
+        bursts = λ bytes queue batch. rw none at (g.came bytes queue batch);
+        entries = rw z at g.entries;
+        used = rw z at g.used;
+        keeps = g.keeps;
       }

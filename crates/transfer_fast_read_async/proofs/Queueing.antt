@@ -3,13 +3,15 @@ use Prim.Native.Nat.{ℕ, ◌+◌, ◌/◌, ◌-◌, ◌<◌, ◌≤◌, ◌^◌
 use native.Mathlib.Omega.{arith}
 use mathlib.Core.Bool.{Bool, false}
 use mathlib.Core.List.{List}
-use mathlib.Core.Path.{◌≡◌, refl}
+use mathlib.Core.Path.{◌≡◌, refl, ◌∙◌}
 use lib.Dec.{eqb}
 use lib.ListN.{length, length-set}
 use borrow.Author.Tests.{ne_eqb}
 use Rattle.std.specs.Prelude.{if◌then◌else◌}
 use Rattle.regs.specs.Registers.{DATA_CMD}
 use Rattle.regs.specs.Inner.Machine.{entered}
+use Rattle.regs.specs.Inner.Recording.{Keeps, Enters}
+use Rattle.regs.specs.declared.access.Recording.{Recording}
 use Rattle.transfer.specs.Inner.Points.{with_point}
 use Rattle.transfer.specs.Inner.Machine.{machine, next_at, next_round, queue_word, store_at, store_round, step_of, step_round, queued}
 use Rattle.transfer.specs.declared.Transfer.{Transfer}
@@ -18,7 +20,9 @@ use Rattle.transfer.specs.declared.Point.TheVariants.{ReadAsync}
 use Rattle.transfer.specs.declared.Round.{Round}
 use Rattle.transfer.specs.declared.RoundPoint.TheVariants.{Queue, Level}
 use Rattle.regs_runs.specs.Inner.Reaches.{Reaches}
-use Rattle.regs_runs.proofs.Reach.{stays, did_write}
+use Rattle.regs_runs.proofs.Reach.{stays, keeps_all, keeps_on, did_write}
+use Rattle.transfer_fast_blocking.specs.Inner.Bursts.{Bursts}
+use Rattle.transfer_fast_blocking.proofs.Bursting.{no_burst, burst_after, burst_of}
 use Rattle.transfer_fast_read_async.specs.Inner.Rounds.{round, Queued}
 use Rattle.transfer_fast_read_async.proofs.Chosen.{chosen}
 
@@ -28,7 +32,7 @@ queueing r left = if eqb left 0 then ReadAsync (Level r) else ReadAsync (Queue r
 
 module _ (coded : Bool) (kinds lengths bytes : List ℕ) {readings : List ℕ} (t : Transfer) {s₀ : Transfer} {e₀ u₀ : ℕ}
     {l₀ b₀ : List ℕ} (remaining q batch left : ℕ) {e u : ℕ} {l b : List ℕ} where
-  word_queued : Reaches (machine coded kinds lengths bytes) readings s₀ e₀ u₀ l₀ b₀
+  pub word_queued : Reaches (machine coded kinds lengths bytes) readings s₀ e₀ u₀ l₀ b₀
       (with_point t (queueing (round remaining q batch) left)) e u l b
       → 0 < left
       → e < length l₀ / 2
@@ -48,70 +52,61 @@ module _ (coded : Bool) (kinds lengths bytes : List ℕ) {readings : List ℕ} (
       (ReadAsync (Queue (round remaining (q - 1) batch) (left - 1))) in
       did_write at refl room next refl
 
--- the loop's head
-pub record Queueing (queue words len : ℕ) (send_stop restart : Bool) (l₀ : List ℕ) (e₀ : ℕ) (l : List ℕ) (q left e : ℕ) : Type 0 where
-  pub came : (coded : Bool) (kinds lengths bytes readings : List ℕ) (t : Transfer) (remaining batch u : ℕ) (b : List ℕ)
-      → t.len ≡ len
-      → t.send_stop ≡ send_stop
-      → t.restart ≡ restart
-      → Reaches (machine coded kinds lengths bytes) readings
-      (with_point t (ReadAsync (Queue (round remaining queue batch) words))) e₀ u l₀ b
-      (with_point t (queueing (round remaining q batch) left)) e u l b
-  pub queue_left : q + words ≡ queue + left
-  pub enough : left ≤ q
-  pub counted : e + left ≡ e₀ + words
-  pub room : e₀ + words ≤ length l₀ / 2
-  pub long : length l ≡ length l₀
-  pub fits : length l₀ < 2 ^ 64
+-- the loop's head: so many words of the round are queued
+pub record Queueing (t : Transfer) (queue words : ℕ) (before : Recording) (n : ℕ) (after : Recording) : Type 0 where
+  pub came : (bytes b : List ℕ) (remaining batch : ℕ)
+      → Bursts t bytes before b (ReadAsync (Queue (round remaining queue batch) words)) after b
+      (queueing (round remaining (queue - n) batch) (words - n))
+  pub entries : after.entries ≡ before.entries + n
+  pub used : after.used ≡ before.used
+  pub keeps : Keeps before after
 
-module _ {queue words len : ℕ} {send_stop restart : Bool} {l₀ : List ℕ} {e₀ : ℕ} where
-  pub none_queued : 0 < words
+module _ {t : Transfer} {queue words : ℕ} {before : Recording} where
+  pub none_queued : 0 < words → before.entries ≤ length before.log.now / 2 → length before.log.now < 2 ^ 64
+      → Queueing t queue words before 0 before
+  none_queued some room fits = record {
+    came = λ bytes b remaining batch.
+        let all : words - 0 ≡ words = omega arith in
+        let whole : queue - 0 ≡ queue = omega arith in
+        rw (all, whole, ne_eqb words 0 (λ (z : words ≡ 0). omega (arith, some, z))) (no_burst room fits);
+    entries = omega arith;
+    used = refl;
+    keeps = keeps_all;
+  }
+
+  pub one_queued : {mid after : Recording} {n w : ℕ}
+      → Queueing t queue words before n mid
+      → n < words
       → words ≤ queue
-      → e₀ + words ≤ length l₀ / 2
-      → length l₀ < 2 ^ 64
-      → Queueing queue words len send_stop restart l₀ e₀ l₀ queue words e₀
-  none_queued some enough room fits =
+      → before.entries + words ≤ length before.log.now / 2
+      → length before.log.now < 2 ^ 64
+      → w ≡ queue_word (queue - n) t.len t.send_stop t.restart
+      → Enters mid (0x200 + DATA_CMD) w after
+      → Queueing t queue words before (n + 1) after
+  one_queued {mid} {after} {n} {w} g more enough room fits ew x =
+      let fewer : words - n - 1 ≡ words - (n + 1) = omega arith in
+      let next : queue - n - 1 ≡ queue - (n + 1) = omega arith in
+      let space : mid.entries < length mid.log.now / 2 = rw g.keeps.size (omega (arith, g.entries, room, more)) in
+      let small : length mid.log.now < 2 ^ 64 = rw g.keeps.size fits in
       record {
-        came = λ coded kinds lengths bytes readings t remaining batch u b el es er. rw
-            (ne_eqb words 0 (λ (z : words ≡ 0). omega (arith, some, z)))
-            (stays (machine coded kinds lengths bytes) readings (omega (arith, room)) fits);
-        queue_left = refl;
-        enough = enough;
-        counted = refl;
-        room = room;
-        long = refl;
-        fits = fits;
+        came = λ bytes b remaining batch. burst_after (g.came bytes b remaining batch)
+            (rw (← fewer, ← next) (burst_of x.keeps x.entries x.used x.log (omega (arith, space)) refl
+            (λ coded kinds lengths. rw ew (word_queued coded kinds lengths bytes t remaining (queue - n) batch (words - n)
+            (stays (machine coded kinds lengths bytes) mid.readings.now (omega (arith, space)) small)
+            (omega (arith, more)) space))));
+        entries = omega (arith, x.entries, g.entries);
+        used = x.used ∙ g.used;
+        keeps = keeps_on g.keeps x.keeps;
       }
 
-  pub one_queued : {l : List ℕ} {q left e : ℕ}
-      → Queueing queue words len send_stop restart l₀ e₀ l q left e
-      → 0 < left
-      → {w : ℕ} {l' : List ℕ}
-      → w ≡ queue_word q len send_stop restart
-      → l' ≡ entered l e (0x200 + DATA_CMD) w → Queueing queue words len send_stop restart l₀ e₀ l' (q - 1) (left - 1) (e + 1)
-  one_queued {l} {q} {left} {e} g more ew el' =
+  pub all_queued : {after : Recording} {n : ℕ} → Queueing t queue words before n after → n ≡ words
+      → Queued t queue words before after
+  all_queued {n = n} g z =
+      let none : words - n ≡ 0 = omega (arith, z) in
+      let left : queue - n ≡ queue - words = omega (arith, z) in
       record {
-        came = λ coded kinds lengths bytes readings t remaining batch u b el es er.
-            rw (el', ew, ← el, ← es, ← er)
-            (word_queued coded kinds lengths bytes t remaining q batch left
-            (g.came coded kinds lengths bytes readings t remaining batch u b el es er) more
-            (omega (arith, g.counted, g.room, more)));
-        queue_left = omega (arith, g.queue_left, g.enough, more);
-        enough = omega (arith, g.enough);
-        counted = omega (arith, g.counted, more);
-        room = g.room;
-        long = rw el' (simp length-set g.long);
-        fits = g.fits;
-      }
-
-  pub all_queued : {l : List ℕ} {q left e : ℕ}
-      → Queueing queue words len send_stop restart l₀ e₀ l q left e
-      → left ≡ 0
-      → Queued len send_stop restart queue words e₀ l₀ l
-  all_queued {l} {q} {left} {e} g z =
-      let eq : queue - words ≡ q = omega (arith, g.queue_left, z) in
-      let ee : e₀ + words ≡ e = omega (arith, g.counted, z) in
-      record {
-        reaches = λ coded kinds lengths bytes readings t remaining batch u b el es er. rw (eq, ee)
-            (rw z at (g.came coded kinds lengths bytes readings t remaining batch u b el es er));
+        bursts = λ bytes b remaining batch. rw (none, left) at (g.came bytes b remaining batch);
+        entries = rw z at g.entries;
+        used = g.used;
+        keeps = g.keeps;
       }

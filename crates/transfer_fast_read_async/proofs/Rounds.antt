@@ -9,6 +9,8 @@ use borrow.Author.Tests.{le-ltb, eq-eqb, ne_eqb}
 use Rattle.regs.specs.Registers.{TXFLR, RXFLR, TX_ABRT_SOURCE}
 use Rattle.regs.specs.Fields.{level}
 use Rattle.regs.specs.Inner.Machine.{entered}
+use Rattle.regs.specs.declared.access.Recording.{Recording}
+use Rattle.transfer.specs.declared.Round.{Round}
 use Rattle.transfer.specs.Inner.Points.{with_point}
 use Rattle.transfer.specs.Inner.Machine.{machine, next_at, next_round, next_abort, store_at, store_round, step_of}
 use Rattle.transfer.specs.Inner.Machine.{step_round, step_abort, batch_step, places, queued, returned, fetching}
@@ -18,14 +20,16 @@ use Rattle.transfer.specs.declared.RoundPoint.TheVariants.{Capacity, Queue, Leve
 use Rattle.transfer.specs.declared.AbortPoint.TheVariants.{Source}
 use Rattle.transfer.specs.declared.Caller.TheVariants.{Batch}
 use Rattle.regs_runs.specs.Inner.Reaches.{Reaches}
-use Rattle.regs_runs.proofs.Reach.{stays, then, did_read}
-use Rattle.transfer_fast_blocking.specs.Inner.Bursts.{ForAny}
-use Rattle.transfer_fast_read_async.specs.Inner.Rounds.{round, Queued, Fetched, StraightRound, Rounds}
+use Rattle.regs_runs.specs.Inner.Puts.{Reads}
+use Rattle.regs_runs.proofs.Reach.{stays, keeps_on, did_read}
+use Rattle.transfer_fast_blocking.specs.Inner.Bursts.{Bursts}
+use Rattle.transfer_fast_blocking.proofs.Bursting.{burst_after, burst_of}
+use Rattle.transfer_fast_read_async.specs.Inner.Rounds.{round, Queued, Fetched, StraightRound, after_round}
 
 module _ (coded : Bool) (kinds lengths bytes : List ℕ) {readings : List ℕ} (t : Transfer) {s₀ : Transfer} {e₀ u₀ : ℕ}
     {l₀ b₀ : List ℕ} (remaining queue batch words count : ℕ) {e u : ℕ} {l b : List ℕ} where
   -- TXFLR
-  counted : Reaches (machine coded kinds lengths bytes) readings s₀ e₀ u₀ l₀ b₀
+  pub counted : Reaches (machine coded kinds lengths bytes) readings s₀ e₀ u₀ l₀ b₀
       (with_point t (ReadAsync (Capacity (round remaining queue batch)))) e u l b
       → 0 < words
       → words ≡ min queue (16 - level (get_or readings u 0)) → e < length l₀ / 2 → u < length readings
@@ -43,7 +47,7 @@ module _ (coded : Bool) (kinds lengths bytes : List ℕ) {readings : List ℕ} (
       did_read g refl room left a refl refl
 
   -- RXFLR and TX_ABRT_SOURCE
-  polled : Reaches (machine coded kinds lengths bytes) readings s₀ e₀ u₀ l₀ b₀
+  pub polled : Reaches (machine coded kinds lengths bytes) readings s₀ e₀ u₀ l₀ b₀
       (with_point t (ReadAsync (Level (round remaining queue batch)))) e u l b
       → 0 < batch
       → 0 < remaining
@@ -68,95 +72,35 @@ module _ (coded : Bool) (kinds lengths bytes : List ℕ) {readings : List ℕ} (
       rw (eq-eqb (get_or readings (u + 1) 0) 0 quiet, le-ltb n batch filled, ← are, ne_eqb count 0 got) in
       did_read g₁ refl (omega (arith, room)) (omega (arith, left)) a q v
 
--- a round
-pub round_done : {len at : ℕ} {send_stop restart : Bool} {readings : List ℕ}
-    {remaining queue words count used entries : ℕ} {l b l₁ l₂ l₃ l₄ l₅ b' : List ℕ} {k : ℕ}
-    → StraightRound readings used entries (length l / 2) remaining queue words count
-    → 0 < words
-    → length l < 2 ^ 64
-    → k ≡ entries + 1 + words
-    → l₁ ≡ entered l entries (0x100 + TXFLR) (get_or readings used 0) → Queued len send_stop restart queue words (entries + 1) l₁ l₂
-    → l₃ ≡ entered l₂ k (0x100 + RXFLR) (get_or readings (used + 1) 0)
-    → l₄ ≡ entered l₃ (k + 1) (0x100 + TX_ABRT_SOURCE) (get_or readings (used + 2) 0)
-    → Fetched len at readings (remaining - count) count (k + 2) (used + 3) l₄ b l₅ b'
-    → ForAny (λ (batch : ℕ). Rounds len at send_stop restart readings (round remaining queue batch) entries used l b
-    (round (remaining - count) (queue - words) words) (entries + words + count + 3) (used + count + 3) l₅ b')
-round_done {len} {at} {send_stop} {restart} {readings} {remaining} {queue} {words} {count} {used} {entries} {l} {b}
-    {l₁} {l₂} {l₃} {l₄} {l₅} {b'} {k} s some fits ek e₁ q e₃ e₄ f = λ batch. record {
-      reaches = λ coded kinds lengths bytes t el ea es er.
-          let g₀ = stays (machine coded kinds lengths bytes) readings
-          {s = with_point t (ReadAsync (Capacity (round remaining queue batch)))} {e = entries} {u = used} {l = l}
-          {b = b} (omega (arith, s.fits)) fits in
-          let g₁ = counted coded kinds lengths bytes t remaining queue batch words count g₀ some s.words_are
-          (omega (arith, s.fits)) (omega (arith, s.left)) in
-          let g₂ = then (rw (← e₁) at g₁) (q.reaches coded kinds lengths bytes readings t remaining words (used + 1) b el es er) in
-          let at_k : entries + 1 + words ≡ k = sym ek in
-          let u₂ : used + 1 + 1 ≡ used + 2 = omega arith in
-          let u₃ : used + 1 + 2 ≡ used + 3 = omega arith in
-          let g₃ = polled coded kinds lengths bytes t remaining (queue - words) words words count (rw at_k at g₂) some
-          (omega (arith, s.more)) s.filled (rw u₂ s.quiet) s.count_is (omega (arith, ek, s.fits))
-          (omega (arith, s.left)) in
-          let g₄ = then (rw (u₂, u₃, ← e₃, ← e₄) at g₃) (f.reaches coded kinds lengths bytes t (queue - words) words el ea) in
-          let ee : entries + words + count + 3 ≡ k + 2 + count = omega (arith, ek) in
-          let eu : used + count + 3 ≡ used + 3 + count = omega arith in
-          rw (ee, eu) g₄;
-    }
-
--- how far the rounds came
-pub record Came (remaining queue batch len at : ℕ) (send_stop restart : Bool) (readings : List ℕ) (used : ℕ)
-    (l₀ : List ℕ) (entries : ℕ) (b₀ l b : List ℕ) (r q m u k : ℕ) : Type 0 where
-  pub reaches : Rounds len at send_stop restart readings (round remaining queue batch) entries used l₀ b₀ (round r q m) k u l b
-  pub within : r ≤ len
-  pub held : at + len ≤ length b₀ + 1
-  pub left : u ≤ length readings
-  pub room : k ≤ length l₀ / 2
-  pub long : length l ≡ length l₀
-  pub wide : length b ≡ length b₀
-  pub fits : (length l₀ < 2 ^ 64) × (length readings < 2 ^ 64)
-
-module _ {remaining queue batch len at : ℕ} {send_stop restart : Bool} {readings : List ℕ} {used : ℕ} {l₀ : List ℕ}
-    {entries : ℕ} {b₀ : List ℕ} where
-  pub no_round : remaining ≤ len
-      → at + len ≤ length b₀ + 1
-      → used ≤ length readings
-      → entries ≤ length l₀ / 2
-      → length l₀ < 2 ^ 64
-      → length readings < 2 ^ 64
-      → Came remaining queue batch len at send_stop restart readings used l₀ entries b₀ l₀ b₀ remaining queue batch used entries
-  no_round within held left room fits fits_readings =
-      record {
-        reaches = record { reaches = λ coded kinds lengths bytes t el ea es er. stays (machine coded kinds lengths bytes) readings room fits };
-        within = within;
-        held = held;
-        left = left;
-        room = room;
-        long = refl;
-        wide = refl;
-        fits = (fits, fits_readings);
-      }
-
-  pub one_round : {l b : List ℕ} {r q m u k : ℕ}
-      → Came remaining queue batch len at send_stop restart readings used l₀ entries b₀ l b r q m u k
-      → {room words count : ℕ}
-      → room ≡ length l₀ / 2
-      → StraightRound readings u k room r q words count → {l' b' : List ℕ}
-      → ForAny (λ (m : ℕ). Rounds len at send_stop restart readings (round r q m) k u l b
-      (round (r - count) (q - words) words) (k + words + count + 3) (u + count + 3) l' b')
-      → length l' ≡ length l → length b' ≡ length b
-      → Came remaining queue batch len at send_stop restart readings used l₀ entries b₀ l' b' (r - count)
-      (q - words) words (u + count + 3) (k + words + count + 3)
-  one_round {l} {b} {r} {q} {m} {u} {k} g {room} {words} {count} er s f long wide =
-      record {
-        reaches = record {
-          reaches = λ coded kinds lengths bytes t el ea es ers. then
-              (g.reaches.reaches coded kinds lengths bytes t el ea es ers)
-              ((f m).reaches coded kinds lengths bytes t el ea es ers);
-        };
-        within = omega (arith, g.within);
-        held = g.held;
-        left = omega (arith, s.left);
-        room = omega (arith, s.fits, er);
-        long = long ∙ g.long;
-        wide = wide ∙ g.wide;
-        fits = g.fits;
-      }
+-- a round: TXFLR is read, the words are queued, RXFLR and TX_ABRT_SOURCE are read, and the bytes are fetched
+pub round_done : {t : Transfer} {x : Round} {words count : ℕ} {r r₁ r₂ r₃ r₄ r₅ : Recording} {b b' : List ℕ} {v₁ v₃ v₄ : ℕ}
+    → StraightRound r x words count
+    → length r.log.now < 2 ^ 64
+    → Reads r TXFLR v₁ r₁
+    → Queued t x.queue words r₁ r₂
+    → Reads r₂ RXFLR v₃ r₃
+    → Reads r₃ TX_ABRT_SOURCE v₄ r₄
+    → Fetched t (x.remaining - count) count r₄ b r₅ b'
+    → (bytes : List ℕ) → Bursts t bytes r b (ReadAsync (Capacity x)) r₅ b' (ReadAsync (Capacity (after_round x words count)))
+round_done {t} {x} {words} {count} {r} {r₁} {r₂} {r₃} {r₄} {r₅} {b} {b'} s fits e₁ q e₃ e₄ f bytes =
+    let room : r.entries + 1 ≤ length r.log.now / 2 = omega (arith, s.fits) in
+    let g₁ : Bursts t bytes r b (ReadAsync (Capacity x)) r₁ b (ReadAsync (Queue (round x.remaining x.queue words) words)) =
+        burst_of e₁.keeps e₁.entries e₁.used e₁.log room refl
+        (λ coded kinds lengths. rw e₁.value (counted coded kinds lengths bytes t x.remaining x.queue x.batch words count
+        (stays (machine coded kinds lengths bytes) r.readings.now (omega (arith, room)) fits) s.some s.words_are
+        (omega (arith, room)) (omega (arith, s.left)))) in
+    let g₂ = burst_after g₁ (q.bursts bytes b x.remaining words) in
+    let u₂ : r₂.used ≡ r.used + 1 = q.used ∙ e₁.used in
+    let same : r₂.readings.now ≡ r.readings.now = g₂.keeps.readings in
+    let u₃ : r₂.used + 1 ≡ r.used + 2 = omega (arith, u₂) in
+    let room₂ : r₂.entries + 2 ≤ length r₂.log.now / 2 =
+        rw g₂.keeps.size (omega (arith, s.fits, q.entries, e₁.entries)) in
+    let g₃ : Bursts t bytes r₂ b (ReadAsync (Level (round x.remaining (x.queue - words) words))) r₄ b
+        (ReadAsync (Fetch (round (x.remaining - count) (x.queue - words) words) count)) =
+        burst_of (keeps_on e₃.keeps e₄.keeps) (omega (arith, e₃.entries, e₄.entries)) (omega (arith, e₃.used, e₄.used))
+        (rw (e₃.log, e₃.entries, e₃.value, e₄.value, e₃.keeps.readings, e₃.used) at e₄.log) room₂ refl
+        (λ coded kinds lengths. polled coded kinds lengths bytes t x.remaining (x.queue - words) words words count
+        (stays (machine coded kinds lengths bytes) r₂.readings.now (omega (arith, room₂)) (rw g₂.keeps.size fits)) s.some
+        (omega (arith, s.more)) (rw (same, u₂) s.filled) (rw (same, u₃) s.quiet) (rw (same, u₂) s.count_is) room₂
+        (rw same (omega (arith, s.left, u₂)))) in
+    burst_after (burst_after g₂ g₃) (f.bursts bytes (x.queue - words) words)

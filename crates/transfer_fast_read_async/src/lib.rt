@@ -3,277 +3,140 @@
 // them all, TX_ABRT_SOURCE is clear, and the bytes are fetched.
 #![tactic(auto)]
 
-ghost use Rattle.std.specs.Prelude.{◌≡◌, ℕ, ◌+◌, ◌-◌, ◌/◌, ◌<◌, ◌≤◌, length, true};
-ghost use Rattle.transfer_fast_blocking.specs.Inner.Bursts.{ForAny};
-ghost use Rattle.transfer_fast_read_async.specs.Inner.Rounds.{round, Queued, Fetched};
-ghost use Rattle.transfer_fast_read_async.specs.Inner.Rounds.{StraightRound, Rounds};
+ghost use Rattle.std.specs.Prelude.{List, Option, IfSome, ◌≡◌, ℕ, ◌+◌, ◌-◌, ◌<◌, ◌≤◌, length};
+ghost use Rattle.regs.specs.Inner.Recording.{room_of};
+ghost use Rattle.transfer.specs.declared.Point.TheVariants.{ReadAsync};
+ghost use Rattle.transfer.specs.declared.RoundPoint.TheVariants.{Capacity};
+ghost use Rattle.transfer_fast_blocking.specs.Inner.Bursts.{Bursts, ForAny};
+ghost use Rattle.transfer_fast_read_async.specs.Inner.Rounds.{Queued, Fetched, StraightRound, after_round};
 
+use regs::access::Recording;
 use regs::fields::{byte_of, level_of};
-use regs_runs::{put_read, put_write};
+use regs_runs::{has, read};
+use transfer::{Round, Transfer};
 use transfer_access::words::word_of_queue;
 use transfer_fast_blocking::{free, is_within};
 
 // The words of a round.
-fn queue_words(
-    queue: u16,
-    words: u16,
-    len: u16,
-    send_stop: bool,
-    restart: bool,
-    log: &mut [u32],
-    entries: usize,
-)
+fn queue_words(t: Transfer, queue: u16, words: u16, recording: &mut Recording)
     requires { (0 < words)
         × (words ≤ queue)
-        × (entries + words ≤ length log.old / 2) }
-    ensures { Queued len send_stop restart queue words entries log.old
-        log.new }
+        × (recording.old.entries + words ≤ room_of recording.old) }
+    ensures { Queued t queue words recording.old recording.new }
 {
-    let mut q = queue;
-    let mut left = words;
-    let mut k = entries;
-    while 0 < left {
-        let w = word_of_queue(q, len, send_stop, restart);
-        put_write(log, k, regs::DATA_CMD, w);
-        q -= 1;
-        left -= 1;
-        k += 1;
+    for n in 0..words {
+        let w = word_of_queue(queue - n, t.len, t.send_stop, t.restart);
+        recording.put_write(regs::DATA_CMD, w);
     }
 }
 
 // The bytes of a round; more remain.
 fn fetch_bytes(
+    t: Transfer,
     remaining: u16,
-    n: u16,
-    len: u16,
-    at: usize,
-    readings: &[u32],
-    used: usize,
-    log: &mut [u32],
-    entries: usize,
+    count: u16,
+    recording: &mut Recording,
     buffer: &mut [u8],
 )
-    requires { (0 < n)
+    requires { (0 < count)
         × (0 < remaining)
-        × (remaining + n ≤ len)
-        × (at + len ≤ length buffer.old + 1)
-        × (used + n ≤ length readings.now)
-        × (entries + n ≤ length log.old / 2) }
-    ensures { Fetched len at readings.now remaining n entries used log.old
-        buffer.old log.new buffer.new }
+        × (remaining + count ≤ t.len)
+        × (t.at + t.len ≤ length buffer.old + 1)
+        × (recording.old.used + count ≤ length recording.old.readings.now)
+        × (recording.old.entries + count ≤ room_of recording.old) }
+    ensures { Fetched t remaining count recording.old buffer.old recording.new buffer.new }
 {
-    let mut place = at + (len - remaining - n) as usize;
-    let mut left = n;
-    let mut u = used;
-    let mut k = entries;
-    while 0 < left {
-        let v = readings[u];
-        put_read(log, k, regs::DATA_CMD, v);
-        buffer[place] = byte_of(v);
-        place += 1;
-        left -= 1;
-        u += 1;
-        k += 1;
+    let first = t.at + usize::from(t.len - remaining - count);
+    for n in 0..count {
+        buffer[first + usize::from(n)] = byte_of(read(recording, regs::DATA_CMD));
     }
 }
 
-// What a round does that leads straight on: so many words and so many bytes. No words where it does not.
+// What a round does that leads straight on: so many words and so many bytes.
 #[derive(Clone, Copy)]
 struct Plan {
     words: u16,
     count: u16,
 }
 
-// Whether the words are there, nothing was aborted, bytes remain, and readings and log are long enough.
-fn is_straight(p: Plan, filled: u16, source: u32, remaining: u16, left: usize, room: usize) -> bool
-    ensures { result ≡ true
-        → (p.words ≤ filled) × (source ≡ 0) × (p.count < remaining) × (p.count + 3 ≤ left)
-        × (p.words + p.count + 3 ≤ room) }
+// The plan of a round, if it leads straight on: the words are there, nothing was
+// aborted, bytes remain, and readings and log are long enough.
+fn planned(round: Round, recording: &Recording) -> Option<Plan>
+    requires { recording.now.entries ≤ room_of recording.now }
+    ensures { IfSome result
+        (λ (plan : Plan). StraightRound recording.now round plan.words plan.count) }
 {
-    let count = p.count as usize;
-    if p.words > filled {
-        return false;
+    if !has(recording, 3, 3) {
+        return None;
     }
-    if source != 0 {
-        return false;
-    }
-    if p.count >= remaining {
-        return false;
-    }
-    if count + 3 > left {
-        return false;
-    }
-    p.words as usize + count + 3 <= room
+    let filled = u16::from(level_of(recording.readings[recording.used + 1]));
+    let source = recording.readings[recording.used + 2];
+    let words = round.queue.min(free(recording.readings[recording.used]));
+    let count = filled.min(round.remaining);
+    let is_straight = 0 < words
+        && words <= filled
+        && source == 0
+        && count < round.remaining
+        && has(recording, usize::from(count) + 3, usize::from(words) + usize::from(count) + 3);
+    is_straight.then_some(Plan { words, count })
 }
 
-fn planned(
-    remaining: u16,
-    queue: u16,
-    readings: &[u32],
-    used: usize,
-    entries: usize,
-    room: usize,
-) -> Plan
-    requires { (used ≤ length readings.now)
-        × (entries ≤ room) }
-    ensures { 0 < result.words
-        → StraightRound readings.now used entries room remaining queue result.words result.count }
-{
-    let left = readings.len() - used;
-    if left >= 3 {
-        let filled = level_of(readings[used + 1]) as u16;
-        let p = Plan {
-            words: queue.min(free(readings[used])),
-            count: filled.min(remaining),
-        };
-        let source = readings[used + 2];
-        if is_straight(p, filled, source, remaining, left, room - entries) {
-            return p;
-        }
-    }
-    Plan { words: 0, count: 0 }
-}
-
-// A round that leads straight on.
+// A round that leads straight on, and the round that is next.
 fn one_round(
-    p: Plan,
-    remaining: u16,
-    queue: u16,
-    len: u16,
-    at: usize,
-    send_stop: bool,
-    restart: bool,
-    readings: &[u32],
-    used: usize,
-    log: &mut [u32],
-    entries: usize,
+    t: Transfer,
+    plan: Plan,
+    round: Round,
+    recording: &mut Recording,
     buffer: &mut [u8],
-)
-    requires { StraightRound readings.now used entries (length log.old / 2) remaining queue p.words
-        p.count
-        × (0 < p.words)
-        × (remaining ≤ len)
-        × (at + len ≤ length buffer.old + 1) }
-    ensures { ForAny
-        (λ (batch : ℕ). Rounds len at send_stop restart readings.now
-        (round remaining queue batch) entries used log.old buffer.old
-        (round (remaining - p.count) (queue - p.words) p.words) (entries + p.words + p.count + 3)
-        (used + p.count + 3) log.new buffer.new) }
+) -> Round
+    requires { StraightRound recording.old round plan.words plan.count
+        × (round.remaining ≤ t.len)
+        × (t.at + t.len ≤ length buffer.old + 1) }
+    ensures is { result ≡ after_round round plan.words plan.count }
+    ensures bursts { ForAny
+        (λ (bytes : List ℕ). Bursts t bytes recording.old buffer.old (ReadAsync (Capacity round))
+        recording.new buffer.new (ReadAsync (Capacity result))) }
+    ensures more { recording.old.entries < recording.new.entries }
 {
-    let k = entries + 1 + p.words as usize;
-    put_read(log, entries, regs::TXFLR, readings[used]);
-    queue_words(queue, p.words, len, send_stop, restart, log, entries + 1);
-    put_read(log, k, regs::RXFLR, readings[used + 1]);
-    put_read(log, k + 1, regs::TX_ABRT_SOURCE, readings[used + 2]);
-    fetch_bytes(
-        remaining - p.count,
-        p.count,
-        len,
-        at,
-        readings,
-        used + 3,
-        log,
-        k + 2,
-        buffer,
-    );
-}
-
-// How far a burst came: the round that is next, the readings used and the entries in the log.
-#[derive(Clone, Copy)]
-pub struct Came {
-    pub remaining: u16,
-    pub queue: u16,
-    pub batch: u16,
-    pub used: usize,
-    pub entries: usize,
-}
-
-// Round after round; the last one is the machine's.
-fn run(
-    remaining: u16,
-    queue: u16,
-    batch: u16,
-    len: u16,
-    at: usize,
-    send_stop: bool,
-    restart: bool,
-    readings: &[u32],
-    used: usize,
-    log: &mut [u32],
-    entries: usize,
-    buffer: &mut [u8],
-) -> Came
-    requires { (remaining ≤ len)
-        × (at + len ≤ length buffer.old + 1)
-        × (used ≤ length readings.now)
-        × (entries ≤ length log.old / 2) }
-    ensures { Rounds len at send_stop restart readings.now (round remaining queue batch)
-        entries used log.old buffer.old
-        (round result.remaining result.queue result.batch)
-        result.entries result.used log.new buffer.new }
-{
-    let room = log.len() / 2;
-    let mut r = remaining;
-    let mut q = queue;
-    let mut m = batch;
-    let mut u = used;
-    let mut k = entries;
-    loop {
-        let p = planned(r, q, readings, u, k, room);
-        if p.words == 0 {
-            return Came {
-                remaining: r,
-                queue: q,
-                batch: m,
-                used: u,
-                entries: k,
-            };
-        }
-        one_round(
-            p, r, q, len, at, send_stop, restart, readings, u, log, k, buffer,
-        );
-        k = k + p.words as usize + p.count as usize + 3;
-        u = u + p.count as usize + 3;
-        r -= p.count;
-        q -= p.words;
-        m = p.words;
-    }
-}
-
-// The rounds from one on, where their bytes are within the buffer.
-pub fn burst(
-    remaining: u16,
-    queue: u16,
-    batch: u16,
-    len: u16,
-    at: usize,
-    send_stop: bool,
-    restart: bool,
-    readings: &[u32],
-    used: usize,
-    log: &mut [u32],
-    entries: usize,
-    buffer: &mut [u8],
-) -> Came
-    requires { entries ≤ length log.old / 2 }
-    ensures { Rounds len at send_stop restart readings.now (round remaining queue batch)
-        entries used log.old buffer.old
-        (round result.remaining result.queue result.batch)
-        result.entries result.used log.new buffer.new }
-{
-    if remaining <= len {
-        if is_within(0, len, at, buffer.len(), used, readings.len()) {
-            return run(
-                remaining, queue, batch, len, at, send_stop, restart, readings, used, log, entries,
-                buffer,
-            );
-        }
-    }
-    Came {
+    let remaining = round.remaining - plan.count;
+    let _room = read(recording, regs::TXFLR);
+    queue_words(t, round.queue, plan.words, recording);
+    let _filled = read(recording, regs::RXFLR);
+    let _source = read(recording, regs::TX_ABRT_SOURCE);
+    fetch_bytes(t, remaining, plan.count, recording, buffer);
+    Round {
         remaining,
-        queue,
-        batch,
-        used,
-        entries,
+        queue: round.queue - plan.words,
+        batch: plan.words,
+    }
+}
+
+// Round after round, up to the one that is next; the last one is the machine's.
+fn run(t: Transfer, from: Round, recording: &mut Recording, buffer: &mut [u8]) -> Round
+    requires { (from.remaining ≤ t.len)
+        × (t.at + t.len ≤ length buffer.old + 1)
+        × (recording.old.entries ≤ room_of recording.old) }
+    ensures { ForAny
+        (λ (bytes : List ℕ). Bursts t bytes recording.old buffer.old (ReadAsync (Capacity from))
+        recording.new buffer.new (ReadAsync (Capacity result))) }
+{
+    let mut round = from;
+    while let Some(plan) = planned(round, recording) {
+        round = one_round(t, plan, round, recording, buffer);
+    }
+    round
+}
+
+// The rounds from one on, where their bytes are within the buffer, up to the one that is next.
+pub fn burst(t: Transfer, from: Round, recording: &mut Recording, buffer: &mut [u8]) -> Round
+    requires { recording.old.entries ≤ room_of recording.old }
+    ensures { ForAny
+        (λ (bytes : List ℕ). Bursts t bytes recording.old buffer.old (ReadAsync (Capacity from))
+        recording.new buffer.new (ReadAsync (Capacity result))) }
+{
+    if from.remaining <= t.len && is_within(0, t.len, t.at, buffer.len()) {
+        run(t, from, recording, buffer)
+    } else {
+        from
     }
 }

@@ -1,5 +1,6 @@
 -- Entries that a part of a run puts into a recording's log, one after the other.
-use Rattle.std.specs.Prelude.{ℕ, ◌+◌, List, ◌≡◌}
+use Rattle.std.specs.Prelude.{ℕ, ◌+◌, List, ◌≡◌, get_or}
+use Rattle.regs.specs.Inner.Machine.{entered}
 use Rattle.regs.specs.Inner.Recording.{Keeps}
 use Rattle.regs.specs.declared.access.Recording.{Recording}
 
@@ -9,3 +10,11 @@ pub record Puts (before : Recording) (n : ℕ) (l : List ℕ) (after : Recording
   pub log : after.log.now ≡ l
   pub entries : after.entries ≡ before.entries + n
   pub used : after.used ≡ before.used
+
+-- a register was read
+pub record Reads (before : Recording) (register v : ℕ) (after : Recording) : Type 0 where
+  pub keeps : Keeps before after
+  pub value : v ≡ get_or before.readings.now before.used 0
+  pub log : after.log.now ≡ entered before.log.now before.entries (0x100 + register) v
+  pub entries : after.entries ≡ before.entries + 1
+  pub used : after.used ≡ before.used + 1

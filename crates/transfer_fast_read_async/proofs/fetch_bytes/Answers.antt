@@ -1,9 +1,13 @@
--- `fetch_bytes`: the loop's invariant `Fetching` (proofs/Fetching.antt) is a run with `left` bytes to go,
--- place + remaining + left = at + len, and an entry and a reading for each byte; so every index is in range.
--- `one_fetched` adds a byte, `all_fetched` ends it, and left decreases.
-use Rattle.transfer_fast_read_async.proofs.Fetching.{one_fetched}
+-- `fetch_bytes`: `one_fetched` (proofs/Fetching.antt) adds a byte to those fetched, and `all_fetched` ends it.
+use Rattle.std.proofs.Common.{arith}
+use Rattle.transfer_fast_read_async.proofs.Fetching.{one_fetched, all_fetched}
 use Rattle.transfer_fast_read_async.proofs.fetch_bytes.Goals as goal
 
-pub loop-left-preserved : goal.loop-left-preserved
-loop-left-preserved c = one_fetched c.loop-left.invariant c.loop-left-test.true c.put_read.ensures
-    (rw c.byte_of.ensures)
+pub loop-n-preserved : goal.loop-n-preserved
+loop-n-preserved c =
+    let need = c.requires in
+    one_fetched c.loop-n.invariant c.loop-n-test.true need.1 need.2 need.3 (omega arith) need.4 need.5 (omega arith)
+    c.read.ensures (rw (c.byte_of.ensures, c.from.ensures, c.from-in-loop-n.ensures))
+
+pub returns : goal.returns
+returns c = all_fetched c.loop-n.invariant (omega (arith, c.loop-n-test.false, c.loop-n.auto.n-end))

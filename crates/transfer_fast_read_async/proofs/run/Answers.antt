@@ -1,12 +1,23 @@
--- `run`: the loop's invariant `Came` (proofs/Rounds.antt) is a run up to a round's start, with its bytes,
--- readings and entries within bounds. Where `planned` returns words, its `StraightRound` is what the call
--- `one_round` requires, and `one_round` adds the round; the log's free entries decrease.
-use native.Mathlib.Omega.{arith}
-use mathlib.Core.Path.{refl}
-use Rattle.transfer_fast_read_async.proofs.Rounds.{one_round}
+-- `run`: `burst_after` adds a round to the burst so far.
+use Rattle.std.proofs.Common.{arith, ap, []}
+use Rattle.transfer.specs.declared.Round.{Round}
+use Rattle.transfer_fast_blocking.proofs.Bursting.{burst_after}
 use Rattle.transfer_fast_read_async.proofs.run.Goals as goal
 
-pub loop-p-preserved : goal.loop-p-preserved
-loop-p-preserved c = one_round c.loop-p.invariant refl (c.planned-p.ensures (omega (arith, c.if-p-eq0.false)))
-    c.one_round.ensures c.one_round.auto.log
-    c.one_round.auto.buffer
+pub loop-plan-preserved : goal.loop-plan-preserved
+loop-plan-preserved c = record {
+  came = λ bytes. burst_after (c.loop-plan.invariant.came bytes) (c.one_round-round.ensures.bursts bytes);
+  within = omega (arith, ap (λ (x : Round). x.remaining) c.one_round-round.ensures.is, c.loop-plan.invariant.within);
+}
+
+pub loop-plan-smaller : goal.loop-plan-smaller
+loop-plan-smaller c =
+    let g = c.one_round-round.ensures.bursts [] in
+    let h = c.loop-plan.invariant.came [] in
+    omega (arith, c.one_round-round.ensures.more, g.room, g.keeps.size, h.keeps.size)
+
+pub planned-requires : goal.planned-requires
+planned-requires c = (c.loop-plan.invariant.came []).room
+
+pub returns : goal.returns
+returns c = c.loop-plan.invariant.came

@@ -1,16 +1,20 @@
--- `run`: the loop's invariant `Came` (proofs/Rounds.antt) is a run up to a round's start, with its bytes,
--- readings and entries within bounds. Where `planned` returns words, its `StraightRound` is what the call
--- `one_round` requires, and `one_round` adds the round; the log's free entries decrease.
-use Prim.Native.Nat.{◌/◌, ◌-◌}
-use lib.ListN.{length}
-use Rattle.transfer_fast_read_async.proofs.Rounds.{Came}
+-- `run`: the loop's invariant is the burst up to a round, whose bytes are within the operation; each round puts
+-- entries, so the room in the log decreases.
+use Prim.Native.Nat.{ℕ, ◌-◌, ◌≤◌}
+use mathlib.Core.List.{List}
+use Rattle.regs.specs.Inner.Recording.{room_of}
+use Rattle.transfer.specs.declared.Point.TheVariants.{ReadAsync}
+use Rattle.transfer.specs.declared.RoundPoint.TheVariants.{Capacity}
+use Rattle.transfer_fast_blocking.specs.Inner.Bursts.{Bursts, ForAny}
 use Rattle.transfer_fast_read_async.proofs.run.Given as goal
 
-abbrev pub invariant-loop-p : goal.invariant-loop-p
-invariant-loop-p l =
-    Came l.remaining l.queue l.batch l.len l.at l.send_stop l.restart l.readings l.used l.initial.log l.entries l.initial.buffer l.log l.buffer l.r l.q l.m l.u
-    l.k
+abbrev pub invariant-loop-plan : goal.invariant-loop-plan
+invariant-loop-plan l =
+    record {
+      came : ForAny (λ (bytes : List ℕ). Bursts l.t bytes l.initial.recording l.initial.buffer (ReadAsync (Capacity l.fn.from))
+          l.recording l.buffer (ReadAsync (Capacity l.round)));
+      within : l.round.remaining ≤ l.t.len;
+    }
 
-abbrev pub decreases-loop-p : goal.decreases-loop-p
-decreases-loop-p l =
-    length l.initial.log / 2 - l.k
+abbrev pub decreases-loop-plan : goal.decreases-loop-plan
+decreases-loop-plan l = room_of l.initial.recording - l.recording.entries

@@ -1,50 +1,47 @@
 -- Rounds of an async read, of which a burst is made.
-use Rattle.std.specs.Prelude.{ℕ, ◌+◌, ◌-◌, ◌<◌, ◌≤◌, min, Bool, List, ◌≡◌, length, get_or}
+use Rattle.std.specs.Prelude.{ℕ, ◌+◌, ◌-◌, ◌<◌, ◌≤◌, min, List, ◌≡◌, length, get_or}
 use Rattle.regs.specs.Fields.{level}
-use Rattle.transfer.specs.Inner.Points.{with_point}
-use Rattle.transfer.specs.Inner.Machine.{machine}
+use Rattle.regs.specs.Inner.Recording.{Keeps, room_of}
+use Rattle.regs.specs.declared.access.Recording.{Recording}
 use Rattle.transfer.specs.declared.Transfer.{Transfer}
 use Rattle.transfer.specs.declared.Point.TheVariants.{ReadAsync}
 use Rattle.transfer.specs.declared.Round.{Round}
 use Rattle.transfer.specs.declared.RoundPoint.TheVariants.{Capacity, Queue, Level, Fetch}
-use Rattle.regs_runs.specs.Inner.Reaches.{Reaches}
+use Rattle.transfer_fast_blocking.specs.Inner.Bursts.{Bursts}
 
 abbrev pub round : ℕ → ℕ → ℕ → Round
 round remaining queue batch = record { remaining = remaining; queue = queue; batch = batch }
 
 -- so many words are queued
-pub record Queued (len : ℕ) (send_stop restart : Bool) (queue words e : ℕ) (l l' : List ℕ) : Type 0 where
-  pub reaches : (coded : Bool) (kinds lengths bytes readings : List ℕ) (t : Transfer) (remaining batch u : ℕ) (b : List ℕ)
-      → t.len ≡ len
-      → t.send_stop ≡ send_stop
-      → t.restart ≡ restart
-      → Reaches (machine coded kinds lengths bytes) readings (with_point t (ReadAsync (Queue (round remaining queue batch) words))) e u l b
-      (with_point t (ReadAsync (Level (round remaining (queue - words) batch)))) (e + words) u l' b
+pub record Queued (t : Transfer) (queue words : ℕ) (before after : Recording) : Type 0 where
+  pub bursts : (bytes b : List ℕ) (remaining batch : ℕ)
+      → Bursts t bytes before b (ReadAsync (Queue (round remaining queue batch) words)) after b
+      (ReadAsync (Level (round remaining (queue - words) batch)))
+  pub keeps : Keeps before after
+  pub entries : after.entries ≡ before.entries + words
+  pub used : after.used ≡ before.used
 
 -- so many bytes are fetched, and more remain
-pub record Fetched (len at : ℕ) (readings : List ℕ) (remaining left e u : ℕ) (l b l' b' : List ℕ) : Type 0 where
-  pub reaches : (coded : Bool) (kinds lengths bytes : List ℕ) (t : Transfer) (queue batch : ℕ) → t.len ≡ len → t.at ≡ at
-      → Reaches (machine coded kinds lengths bytes) readings (with_point t (ReadAsync (Fetch (round remaining queue batch) left))) e u l b
-      (with_point t (ReadAsync (Capacity (round remaining queue batch)))) (e + left) (u + left) l' b'
+pub record Fetched (t : Transfer) (remaining count : ℕ) (before : Recording) (b : List ℕ) (after : Recording) (b' : List ℕ) : Type 0 where
+  pub bursts : (bytes : List ℕ) (queue batch : ℕ)
+      → Bursts t bytes before b (ReadAsync (Fetch (round remaining queue batch) count)) after b'
+      (ReadAsync (Capacity (round remaining queue batch)))
+  pub keeps : Keeps before after
+  pub entries : after.entries ≡ before.entries + count
+  pub used : after.used ≡ before.used + count
 
 -- what a round does that leads straight on: so many words, for which TXFLR has room, and so
 -- many bytes, of which RXFLR has as many as words; the readings and the log are long enough
-pub record StraightRound (readings : List ℕ) (u e room remaining queue words count : ℕ) : Type 0 where
-  pub words_are : words ≡ min queue (16 - level (get_or readings u 0))
-  pub count_is : count ≡ min (level (get_or readings (u + 1) 0)) remaining
-  pub filled : words ≤ level (get_or readings (u + 1) 0)
-  pub quiet : get_or readings (u + 2) 0 ≡ 0
-  pub more : count < remaining
-  pub left : u + 3 + count ≤ length readings
-  pub fits : e + words + count + 3 ≤ room
+pub record StraightRound (r : Recording) (x : Round) (words count : ℕ) : Type 0 where
+  pub some : 0 < words
+  pub words_are : words ≡ min x.queue (16 - level (get_or r.readings.now r.used 0))
+  pub count_is : count ≡ min (level (get_or r.readings.now (r.used + 1) 0)) x.remaining
+  pub filled : words ≤ level (get_or r.readings.now (r.used + 1) 0)
+  pub quiet : get_or r.readings.now (r.used + 2) 0 ≡ 0
+  pub more : count < x.remaining
+  pub left : r.used + (count + 3) ≤ length r.readings.now
+  pub fits : r.entries + (words + count + 3) ≤ room_of r
 
--- whole rounds
-pub record Rounds (len at : ℕ) (send_stop restart : Bool) (readings : List ℕ) (r : Round) (e u : ℕ) (l b : List ℕ)
-    (r' : Round) (e' u' : ℕ) (l' b' : List ℕ) : Type 0 where
-  pub reaches : (coded : Bool) (kinds lengths bytes : List ℕ) (t : Transfer)
-      → t.len ≡ len
-      → t.at ≡ at
-      → t.send_stop ≡ send_stop
-      → t.restart ≡ restart
-      → Reaches (machine coded kinds lengths bytes) readings (with_point t (ReadAsync (Capacity r))) e u l b
-      (with_point t (ReadAsync (Capacity r'))) e' u' l' b'
+-- the round after it
+abbrev pub after_round : Round → ℕ → ℕ → Round
+after_round x words count = round (x.remaining - count) (x.queue - words) words
