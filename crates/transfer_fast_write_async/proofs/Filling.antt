@@ -10,6 +10,8 @@ use lib.Dec.{leb}
 use borrow.Author.Tests.{ne_eqb, lt-ltb, le-ltb, leb-true, leb-false, le-leb, lt-leb}
 use Rattle.regs.specs.Registers.{DATA_CMD}
 use Rattle.regs.specs.Inner.Machine.{entered}
+use Rattle.regs.specs.Inner.Recording.{Keeps, Enters}
+use Rattle.regs.specs.declared.access.Recording.{Recording}
 use Rattle.transfer.specs.Inner.Points.{with_point}
 use Rattle.transfer.specs.Inner.Machine.{machine, moved_to, begun, opened, opened_read, opened_write, next_at}
 use Rattle.transfer.specs.Inner.Machine.{next_fill, fill_word, store_at, step_of, step_fill, filling, wait_stop, after_index}
@@ -22,8 +24,8 @@ use Rattle.transfer.specs.declared.FillPoint.TheVariants.{Fill}
 use Rattle.transfer.specs.declared.AbortPoint.TheVariants.{Source}
 use Rattle.transfer.specs.declared.Caller.TheVariants.{Space}
 use Rattle.regs_runs.specs.Inner.Reaches.{Reaches}
-use Rattle.regs_runs.proofs.Reach.{did_write}
-use Rattle.transfer_fast_write_async.specs.Inner.Fills.{Polls}
+use Rattle.regs_runs.proofs.Reach.{stays, then, keeps_all, keeps_on, did_write}
+use Rattle.transfer_fast_write_async.specs.Inner.Fills.{Leads, Filled}
 
 -- where a step leads does not depend on the point that it is made from
 pub from_any_point : (coded : Bool) (kinds lengths : List ℕ) (t : Transfer) (p : Point) (s : StepTaken)
@@ -36,7 +38,7 @@ from_any_point coded kinds lengths t p (Err r) = refl
 module _ (coded : Bool) (kinds lengths bytes : List ℕ) {readings : List ℕ} (t : Transfer) {s₀ : Transfer} {e₀ u₀ : ℕ} {l₀ b₀ : List ℕ} (i left : ℕ)
     {e u : ℕ} {l b : List ℕ} where
   -- a byte and a place for it: the word is written
-  word_written : Reaches (machine coded kinds lengths bytes) readings s₀ e₀ u₀ l₀ b₀
+  pub word_written : Reaches (machine coded kinds lengths bytes) readings s₀ e₀ u₀ l₀ b₀
       (moved_to coded kinds lengths t (filling t.len t.send_stop i left)) e u l b
       → 0 < left → i < t.len → e < length l₀ / 2
       → Reaches (machine coded kinds lengths bytes) readings s₀ e₀ u₀ l₀ b₀
@@ -62,87 +64,82 @@ pub no_byte : (len : ℕ) (send_stop : Bool) (i left : ℕ) → i ≡ len → 0 
 unfolding filling
 no_byte len send_stop i left ended some = rw (ne_eqb left 0 (λ (z : left ≡ 0). omega (arith, some, z)), le-ltb i len (omega (arith, ended)))
 
--- the test for the last round, without a difference
-pub below : (i len space : ℕ) → i ≤ len → leb (len - i) space ≡ leb len (i + space)
-below i len space within = go (leb len (i + space)) refl
-  where
-    go : (b : Bool) → leb len (i + space) ≡ b → leb (len - i) space ≡ leb len (i + space)
-    go true e = le-leb (len - i) space (omega (arith, leb-true len (i + space) e, within)) ∙ sym e
-    go false e = lt-leb (len - i) space (omega (arith, leb-false len (i + space) e, within)) ∙ sym e
-
 and_true : (b : Bool) → (b && true) ≡ b
 and_true true = refl
 and_true false = refl
 
--- the inner loop's head: j of the places are filled
-pub record Filling (len at : ℕ) (send_stop : Bool) (bytes readings : List ℕ) (u from space e₀ : ℕ) (l₀ : List ℕ) (i e : ℕ) (l : List ℕ)
-    (j : ℕ) : Type 0 where
-  pub came : (coded : Bool) (kinds lengths : List ℕ) (t : Transfer) (b : List ℕ) → t.len ≡ len → t.at ≡ at → t.send_stop ≡ send_stop
-      → Reaches (machine coded kinds lengths bytes) readings (moved_to coded kinds lengths t (filling t.len t.send_stop from space)) e₀ u l₀ b
-      (moved_to coded kinds lengths t (filling t.len t.send_stop i (space - j))) e u l b
-  pub passed : i ≡ from + j
-  pub counted : e ≡ e₀ + j
-  pub within : i ≤ len
-  pub placed : j ≤ space
-  pub held : at + len ≤ length bytes + 1
-  pub long : length l ≡ length l₀
-  -- the log has room for each word
-  pub room : (k : ℕ) → k < space → from + k < len → e₀ + k < length l₀ / 2
-  -- if every place is filled, a poll follows
-  pub polls : from + space ≤ len → Polls readings u × (e₀ + space + 2 ≤ length l₀ / 2)
-  pub fits : (length l₀ < 2 ^ 64) × (length readings < 2 ^ 64) × (length bytes < 2 ^ 64) × (len < 2 ^ 16)
+-- STOP is asked for in the last round alone: before it no byte is the last one
+pub same_word : (last send_stop : Bool) (byte i len : ℕ) → (last ≡ false → i + 1 < len)
+    → fill_word byte i len (send_stop && last) ≡ fill_word byte i len send_stop
+unfolding fill_word
+same_word true send_stop byte i len other = rw (and_true send_stop)
+same_word false send_stop byte i len other = rw (ne_eqb (i + 1) len (λ (z : i + 1 ≡ len). omega (arith, z, other refl)))
 
-module _ {len at : ℕ} {send_stop : Bool} {bytes readings : List ℕ} {u from space e₀ : ℕ} {l₀ : List ℕ} {i e j : ℕ} {l : List ℕ}
-    (g : Filling len at send_stop bytes readings u from space e₀ l₀ i e l j) where
-  -- a byte and a place for it: the log has room for the word
-  pub word_fits : j < space → i < len → e < length l₀ / 2
-  word_fits more before = omega (arith, g.room j more (omega (arith, before, g.passed)), g.counted)
+module _ {t : Transfer} {bytes : List ℕ} where
+  pub no_lead : {s : Step} {r : Recording} → r.entries ≤ length r.log.now / 2 → length r.log.now < 2 ^ 64 → Leads t bytes r s r s
+  no_lead {r = r} room fits = record {
+    keeps = keeps_all;
+    room = room;
+    reaches = λ coded kinds lengths b. stays (machine coded kinds lengths bytes) r.readings.now room fits;
+  }
 
-  -- the test for the end fails: there is a byte, since a round that is not the last has one for each place
-  pub more_bytes : (last : Bool) → last ≡ leb len (from + space) → j < space → (last ≡ true → i ≡ len → ⊥) → i < len
-  more_bytes true is more going = omega (arith, g.within, going refl)
-  more_bytes false is more going = omega (arith, g.passed, more, leb-false len (from + space) (sym is))
+  pub lead_after : {s s₁ s₂ : Step} {r r₁ r₂ : Recording} → Leads t bytes r s r₁ s₁ → Leads t bytes r₁ s₁ r₂ s₂ → Leads t bytes r s r₂ s₂
+  lead_after x y = record {
+    keeps = keeps_on x.keeps y.keeps;
+    room = y.room;
+    reaches = λ coded kinds lengths b. then (x.reaches coded kinds lengths b) (rw x.keeps.readings at (y.reaches coded kinds lengths b));
+  }
 
-  -- the byte is in the slice or just past it, and in it before the last round
-  pub has_place : (last : Bool) → last ≡ leb len (from + space) → j < space → i < len
-      → (at + i ≤ length bytes) × (last ≡ false → at + i < length bytes)
-  has_place last is more before = (
-    omega (arith, g.held, before),
-    λ other. omega (arith, g.held, g.passed, more, leb-false len (from + space) (sym is ∙ other)),
-  )
+  pub lead_of : {s s' : Step} {before after : Recording} {e u : ℕ} {l : List ℕ}
+      → Keeps before after
+      → after.entries ≡ e
+      → after.used ≡ u
+      → after.log.now ≡ l
+      → e ≤ length before.log.now / 2
+      → ((coded : Bool) (kinds lengths b : List ℕ)
+      → Reaches (machine coded kinds lengths bytes) before.readings.now (moved_to coded kinds lengths t s) before.entries
+      before.used before.log.now b (moved_to coded kinds lengths t s') e u l b)
+      → Leads t bytes before s after s'
+  lead_of keeps entries used log room run = record {
+    keeps = keeps;
+    room = rw (entries, keeps.size) room;
+    reaches = λ coded kinds lengths b. rw (entries, used, log) (run coded kinds lengths b);
+  }
 
-  -- STOP is asked for in the last round alone: before it no byte is the last one
-  pub same_word : (last : Bool) → last ≡ leb len (from + space) → j < space → (byte : ℕ)
-      → fill_word byte i len (send_stop && last) ≡ fill_word byte i len send_stop
-  unfolding fill_word
-  same_word true is more byte = rw (and_true send_stop)
-  same_word false is more byte =
-      rw (ne_eqb (i + 1) len (λ (z : i + 1 ≡ len). omega (arith, z, g.passed, more, leb-false len (from + space) (sym is))))
+-- the loop's head: n of the places are filled
+module _ {t : Transfer} {bytes : List ℕ} {from : ℕ} {before : Recording} where
+  pub none_filled : before.entries ≤ length before.log.now / 2 → length before.log.now < 2 ^ 64 → Filled t bytes from 0 before before
+  none_filled room fits = record {
+    leads = λ space few.
+        let all : space - 0 ≡ space = omega arith in
+        let first : from + 0 ≡ from = omega arith in
+        rw (all, first) (no_lead room fits);
+    keeps = keeps_all;
+    entries = omega arith;
+    used = refl;
+  }
 
-  -- no place is left: a poll follows
-  pub polls_next : space ≤ j → Polls readings u × (e + 2 ≤ length l₀ / 2)
-  polls_next all =
-      let p = g.polls (omega (arith, g.passed, g.within, g.placed, all)) in
-      (p.0, omega (arith, p.1, g.counted, g.placed))
-
-  pub one_filled : j < space → i < len → {w : ℕ} {l' : List ℕ} → w ≡ fill_word (get_or bytes (at + i) 0) i len send_stop
-      → l' ≡ entered l e (0x200 + DATA_CMD) w
-      → Filling len at send_stop bytes readings u from space e₀ l₀ (i + 1) (e + 1) l' (j + 1)
-  one_filled more before {w} ew el' =
-      let fewer : space - (j + 1) ≡ space - j - 1 = omega arith in
+  pub one_filled : {mid after : Recording} {n w : ℕ}
+      → Filled t bytes from n before mid
+      → from + n < t.len
+      → before.entries + n < length before.log.now / 2
+      → length before.log.now < 2 ^ 64
+      → w ≡ fill_word (get_or bytes (t.at + (from + n)) 0) (from + n) t.len t.send_stop
+      → Enters mid (0x200 + DATA_CMD) w after
+      → Filled t bytes from (n + 1) before after
+  one_filled {mid} {after} {n} {w} g more room fits ew x =
+      let space : mid.entries < length mid.log.now / 2 = rw g.keeps.size (omega (arith, g.entries, room)) in
+      let small : length mid.log.now < 2 ^ 64 = rw g.keeps.size fits in
       record {
-        came = λ coded kinds lengths t b el ea es.
-            let is : w ≡ fill_word (get_or bytes (t.at + i) 0) i t.len t.send_stop = rw (el, ea, es) ew in
-            rw (el', is, fewer)
-            (word_written coded kinds lengths bytes t i (space - j) (g.came coded kinds lengths t b el ea es) (omega (arith, more)) (rw el before)
-            (word_fits more before));
-        passed = omega (arith, g.passed);
-        counted = omega (arith, g.counted);
-        within = omega (arith, before);
-        placed = omega (arith, more);
-        held = g.held;
-        long = rw el' (simp length-set g.long);
-        room = g.room;
-        polls = g.polls;
-        fits = g.fits;
+        leads = λ places few.
+            let fewer : places - n - 1 ≡ places - (n + 1) = omega arith in
+            let next : from + n + 1 ≡ from + (n + 1) = omega arith in
+            lead_after (g.leads places (omega (arith, few)))
+            (rw (← fewer, ← next) (lead_of x.keeps x.entries x.used x.log (omega (arith, space))
+            (λ coded kinds lengths b. rw ew (word_written coded kinds lengths bytes t (from + n) (places - n)
+            (stays (machine coded kinds lengths bytes) mid.readings.now (omega (arith, space)) small)
+            (omega (arith, few)) more space))));
+        keeps = keeps_on g.keeps x.keeps;
+        entries = omega (arith, x.entries, g.entries);
+        used = x.used ∙ g.used;
       }

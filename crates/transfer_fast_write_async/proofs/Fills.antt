@@ -11,6 +11,7 @@ use borrow.Author.Tests.{le-ltb, eq-eqb, ne_eqb}
 use Rattle.regs.specs.Registers.{TXFLR, TX_ABRT_SOURCE}
 use Rattle.regs.specs.Fields.{level}
 use Rattle.regs.specs.Inner.Machine.{entered}
+use Rattle.regs.specs.declared.access.Recording.{Recording}
 use Rattle.transfer.specs.Inner.Points.{with_point}
 use Rattle.transfer.specs.Inner.Machine.{machine, moved_to, next_at, next_fill, next_abort, store_at, step_of}
 use Rattle.transfer.specs.Inner.Machine.{step_fill, step_abort, free_step, full_step, places, filling, wait_stop, returned}
@@ -22,14 +23,15 @@ use Rattle.transfer.specs.declared.FillPoint.TheVariants.{Free, Full}
 use Rattle.transfer.specs.declared.AbortPoint.TheVariants.{Source}
 use Rattle.transfer.specs.declared.Caller.TheVariants.{Space}
 use Rattle.regs_runs.specs.Inner.Reaches.{Reaches}
-use Rattle.regs_runs.proofs.Reach.{stays, then, did_read}
-use Rattle.transfer_fast_write_async.specs.Inner.Fills.{Polls, StraightFill, Fills}
-use Rattle.transfer_fast_write_async.proofs.Filling.{Filling, from_any_point, no_place, no_byte, polls_next}
+use Rattle.regs_runs.specs.Inner.Puts.{Reads}
+use Rattle.regs_runs.proofs.Reach.{stays, keeps_on, did_read}
+use Rattle.transfer_fast_write_async.specs.Inner.Fills.{Polls, StraightFill, Leads, Filled}
+use Rattle.transfer_fast_write_async.proofs.Filling.{from_any_point, no_place, no_byte, lead_of, lead_after}
 
 module _ (coded : Bool) (kinds lengths bytes : List ℕ) {readings : List ℕ} (t : Transfer) {s₀ : Transfer} {e₀ u₀ : ℕ} {l₀ b₀ : List ℕ} (i : ℕ) {e u : ℕ}
     {l b : List ℕ} where
   -- TXFLR
-  counted : (space : ℕ) → Reaches (machine coded kinds lengths bytes) readings s₀ e₀ u₀ l₀ b₀ (with_point t (WriteAsync (Free i))) e u l b
+  pub counted : (space : ℕ) → Reaches (machine coded kinds lengths bytes) readings s₀ e₀ u₀ l₀ b₀ (with_point t (WriteAsync (Free i))) e u l b
       → 0 < space
       → space ≡ 16 - level (get_or readings u 0) → e < length l₀ / 2 → u < length readings
       → Reaches (machine coded kinds lengths bytes) readings s₀ e₀ u₀ l₀ b₀
@@ -45,7 +47,7 @@ module _ (coded : Bool) (kinds lengths bytes : List ℕ) {readings : List ℕ} (
       did_read g refl room left a refl refl
 
   -- TX_ABRT_SOURCE and TXFLR
-  polled : Reaches (machine coded kinds lengths bytes) readings s₀ e₀ u₀ l₀ b₀ (with_point t (Abort Source (Space i))) e u l b
+  pub polled : Reaches (machine coded kinds lengths bytes) readings s₀ e₀ u₀ l₀ b₀ (with_point t (Abort Source (Space i))) e u l b
       → Polls readings u → e + 2 ≤ length l₀ / 2
       → Reaches (machine coded kinds lengths bytes) readings s₀ e₀ u₀ l₀ b₀ (with_point t (WriteAsync (Free i))) (e + 2) (u + 2)
       (entered (entered l e (0x100 + TX_ABRT_SOURCE) (get_or readings u 0)) (e + 1) (0x100 + TXFLR) (get_or readings (u + 1) 0)) b
@@ -64,103 +66,50 @@ module _ (coded : Bool) (kinds lengths bytes : List ℕ) {readings : List ℕ} (
       did_read g₁ refl (omega (arith, room)) (omega (arith, s.left)) a₂ q v
 
 -- the log has room for TXFLR and for the word of each byte that has a place
-has_room : {readings : List ℕ} {u e room i len space : ℕ} → StraightFill readings u e room i len space → (j : ℕ) → j ≤ space
-    → i + j ≤ len → e + 1 + j ≤ room
+pub has_room : {r : Recording} {i len space : ℕ} → StraightFill r i len space → (j : ℕ) → j ≤ space
+    → i + j ≤ len → r.entries + 1 + j ≤ length r.log.now / 2
 has_room {i = i} {len} {space} s j in_places in_bytes =
     ⊎_elim (λ (z : i + space - len ≡ 0). omega (arith, (s.goes_on (omega (arith, z))).1))
     (λ (p : 0 < i + space - len). omega (arith, s.last (omega (arith, p))))
     (eq-zero-or-pos (i + space - len))
 
--- how far the rounds came; the read buffer is not touched
-pub record Came (from len at : ℕ) (send_stop : Bool) (bytes readings : List ℕ) (used : ℕ) (l₀ : List ℕ) (entries : ℕ) (l : List ℕ)
-    (i u k : ℕ) : Type 0 where
-  pub fills : Fills len at send_stop bytes readings from entries used l₀ (go (WriteAsync (Free i))) k u l
-  pub within : i ≤ len
-  pub held : at + len ≤ length bytes + 1
-  pub left : u ≤ length readings
-  pub room : k ≤ length l₀ / 2
-  pub long : length l ≡ length l₀
-  pub fits : (length l₀ < 2 ^ 64) × (length readings < 2 ^ 64) × (length bytes < 2 ^ 64) × (len < 2 ^ 16)
+-- a round up to a place: TXFLR is read, and places are filled
+module _ {t : Transfer} {bytes : List ℕ} {i space count : ℕ} {r r₁ r₂ : Recording} {v : ℕ}
+    (s : StraightFill r i t.len space) (fits : length r.log.now < 2 ^ 64) (e : Reads r TXFLR v r₁)
+    (within : i ≤ t.len) (few : count ≤ space) (f : Filled t bytes i count r₁ r₂) where
+  up_to : Leads t bytes r (Go (WriteAsync (Free i))) r₂ (filling t.len t.send_stop (i + count) (space - count))
+  up_to =
+      let room : r.entries + 1 ≤ length r.log.now / 2 = omega (arith, has_room s 0 (omega arith) (omega (arith, within))) in
+      lead_after
+      (lead_of e.keeps e.entries e.used e.log room
+      (λ coded kinds lengths b. rw e.value (counted coded kinds lengths bytes t i space
+      (stays (machine coded kinds lengths bytes) r.readings.now (omega (arith, room)) fits) s.some s.space_is (omega (arith, room))
+      (omega (arith, s.left)))))
+      (f.leads space few)
 
-module _ {from len at : ℕ} {send_stop : Bool} {bytes readings : List ℕ} {used : ℕ} {l₀ : List ℕ} {entries : ℕ} where
-  pub no_round : from ≤ len → at + len ≤ length bytes + 1 → used ≤ length readings → entries ≤ length l₀ / 2 → length l₀ < 2 ^ 64
-      → length readings < 2 ^ 64 → length bytes < 2 ^ 64 → len < 2 ^ 16
-      → Came from len at send_stop bytes readings used l₀ entries l₀ from used entries
-  no_round within held left room fits fits_readings fits_bytes fits_len =
-      record {
-        fills = record { reaches = λ coded kinds lengths t b el ea es. stays (machine coded kinds lengths bytes) readings room fits };
-        within = within;
-        held = held;
-        left = left;
-        room = room;
-        long = refl;
-        fits = (fits, fits_readings, fits_bytes, fits_len);
-      }
+  -- the bytes have ended, and a place is left
+  pub last_round : {x : Step} → count < space → i + count ≡ t.len → x ≡ wait_stop t.send_stop Fine
+      → Leads t bytes r (Go (WriteAsync (Free i))) r₂ x
+  last_round {x} more ended ex =
+      let is : filling t.len t.send_stop (i + count) (space - count) ≡ x =
+          rw ex (no_byte t.len t.send_stop (i + count) (space - count) ended (omega (arith, more))) in
+      rw is at up_to
 
-  module _ {l : List ℕ} {i u k : ℕ} (g : Came from len at send_stop bytes readings used l₀ entries l i u k) {n : ℕ}
-      (s : StraightFill readings u k (length l₀ / 2) i len n) where
-    pub level_fits : k < length l₀ / 2
-    level_fits = omega (arith, has_room s 0 (omega arith) (omega (arith, g.within)))
-
-    -- TXFLR is read, and no place is filled yet
-    pub none_filled : {l₁ : List ℕ} → length l₁ ≡ length l → Filling len at send_stop bytes readings (u + 1) i n (k + 1) l₁ i (k + 1) l₁ 0
-    none_filled {l₁} long =
-        let same : length l₁ ≡ length l₀ = long ∙ g.long in
-        let fits : length l₁ < 2 ^ 64 = omega (arith, same, g.fits.0) in
-        let all : n - 0 ≡ n = omega arith in
-        record {
-          came = λ coded kinds lengths t b el ea es. rw all (stays (machine coded kinds lengths bytes) readings (omega (arith, level_fits, same)) fits);
-          passed = omega arith;
-          counted = omega arith;
-          within = g.within;
-          placed = omega arith;
-          held = g.held;
-          long = refl;
-          room = λ j more before. omega (arith, same, has_room s (j + 1) (omega (arith, more)) (omega (arith, before)));
-          polls = λ z. let p = s.goes_on z in (p.0, omega (arith, same, p.1));
-          fits = (fits, g.fits.1, g.fits.2, g.fits.3);
-        }
-
-    -- a round up to a place: TXFLR is read, and places are filled
-    module _ (some : 0 < n) {l₁ l₂ : List ℕ} {i₂ k₂ j : ℕ} (e₁ : l₁ ≡ entered l k (0x100 + TXFLR) (get_or readings u 0))
-        (f : Filling len at send_stop bytes readings (u + 1) i n (k + 1) l₁ i₂ k₂ l₂ j) where
-      up_to : (coded : Bool) (kinds lengths : List ℕ) (t : Transfer) (b : List ℕ) → t.len ≡ len → t.at ≡ at → t.send_stop ≡ send_stop
-          → Reaches (machine coded kinds lengths bytes) readings (with_point t (WriteAsync (Free from))) entries used l₀ b
-          (moved_to coded kinds lengths t (filling t.len t.send_stop i₂ (n - j))) k₂ (u + 1) l₂ b
-      up_to coded kinds lengths t b el ea es =
-          let g₁ = counted coded kinds lengths bytes t i n (g.fills.reaches coded kinds lengths t b el ea es) some s.space_is level_fits
-          (omega (arith, s.left)) in
-          then (rw (← e₁) at g₁) (f.came coded kinds lengths t b el ea es)
-
-      -- the bytes have ended, and a place is left
-      pub last_round : {x : StepTaken} → j < n → i₂ ≡ len → x ≡ wait_stop send_stop (Ok tt)
-          → Fills len at send_stop bytes readings from entries used l₀ x k₂ (u + 1) l₂
-      last_round {x} more ended ex =
-          record {
-            reaches = λ coded kinds lengths t b el ea es.
-                let is : filling t.len t.send_stop i₂ (n - j) ≡ x =
-                rw ex (rw es (no_byte t.len send_stop i₂ (n - j) (rw el ended) (omega (arith, more)))) in
-                rw is at (up_to coded kinds lengths t b el ea es);
-          }
-
-      -- every place is filled
-      pub one_round : n ≤ j → {l₃ l₄ : List ℕ} → l₃ ≡ entered l₂ k₂ (0x100 + TX_ABRT_SOURCE) (get_or readings (u + 1) 0)
-          → l₄ ≡ entered l₃ (k₂ + 1) (0x100 + TXFLR) (get_or readings (u + 1 + 1) 0) → length l₁ ≡ length l → length l₄ ≡ length l₂
-          → Came from len at send_stop bytes readings used l₀ entries l₄ i₂ (u + 1 + 2) (k₂ + 2)
-      one_round all e₃ e₄ same long =
-          let p = polls_next f all in
-          let none : n - j ≡ 0 = omega (arith, all) in
-          let room : k₂ + 2 ≤ length l₀ / 2 = omega (arith, p.1, same, g.long) in
-          record {
-            fills = record {
-              reaches = λ coded kinds lengths t b el ea es.
-                  rw (e₄, e₃) (polled coded kinds lengths bytes t i₂
-                  (rw (none, no_place t.len t.send_stop i₂) at (up_to coded kinds lengths t b el ea es)) p.0 room);
-            };
-            within = f.within;
-            held = g.held;
-            left = omega (arith, p.0.left);
-            room = room;
-            long = long ∙ f.long ∙ same ∙ g.long;
-            fits = g.fits;
-          }
+  -- every place is filled, and a poll leads to the next round
+  pub one_round : {r₃ r₄ : Recording} {v₃ v₄ : ℕ} → space ≤ count → i + count ≤ t.len
+      → Reads r₂ TX_ABRT_SOURCE v₃ r₃
+      → Reads r₃ TXFLR v₄ r₄
+      → Leads t bytes r (Go (WriteAsync (Free i))) r₄ (Go (WriteAsync (Free (i + count))))
+  one_round {r₃} {r₄} all in_bytes e₃ e₄ =
+      let p = s.goes_on (omega (arith, all, in_bytes)) in
+      let none : space - count ≡ 0 = omega (arith, all) in
+      let u₂ : r₂.used ≡ r.used + 1 = f.used ∙ e.used in
+      let same : r₂.readings.now ≡ r.readings.now = f.keeps.readings ∙ e.keeps.readings in
+      let size : length r₂.log.now ≡ length r.log.now = f.keeps.size ∙ e.keeps.size in
+      let room : r₂.entries + 2 ≤ length r₂.log.now / 2 = rw size (omega (arith, p.1, f.entries, e.entries, few)) in
+      let polls : Polls r₂.readings.now r₂.used = rw (same, u₂) p.0 in
+      lead_after (rw (none, no_place t.len t.send_stop (i + count)) at up_to)
+      (lead_of (keeps_on e₃.keeps e₄.keeps) (omega (arith, e₃.entries, e₄.entries)) (omega (arith, e₃.used, e₄.used))
+      (rw (e₃.log, e₃.entries, e₃.value, e₄.value, e₃.keeps.readings, e₃.used) at e₄.log) room
+      (λ coded kinds lengths b. polled coded kinds lengths bytes t (i + count)
+      (stays (machine coded kinds lengths bytes) r₂.readings.now (omega (arith, room)) (rw size fits)) polls room))

@@ -4,77 +4,53 @@
 // and TXFLR has room again.
 #![tactic(auto)]
 
-ghost use Rattle.std.specs.Prelude.{true, false, ◌≡◌, ◌+◌, ◌/◌, ◌<◌, ◌≤◌, leb, length};
+ghost use Rattle.std.specs.Prelude.{true, false, Option, IfSome, ◌≡◌, ◌+◌, ◌<◌, ◌≤◌, length};
+ghost use Rattle.regs.specs.Inner.Recording.{room_of};
 ghost use Rattle.transfer.specs.Inner.Machine.{byte_at};
-ghost use Rattle.transfer_fast_write_async.specs.Inner.Fills.{Polls, StraightFill, Fills};
+ghost use Rattle.transfer.specs.declared.Step.TheVariants.{Go};
+ghost use Rattle.transfer.specs.declared.Point.TheVariants.{WriteAsync};
+ghost use Rattle.transfer.specs.declared.FillPoint.TheVariants.{Free};
+ghost use Rattle.transfer_fast_write_async.specs.Inner.Fills.{Polls, StraightFill, Leads, Filled};
 
-use regs_runs::{put_read, put_write};
-use transfer::{FillPoint, Point, Step};
+use regs::access::Recording;
+use regs_runs::{has, read};
+use transfer::{FillPoint, Point, Step, Transfer, Tried};
 use transfer_access::words::word_of_fill;
 use transfer_after_waits::wait_for_stop;
 use transfer_fast_blocking::{free, is_within};
 
 // Whether a round that fills all its places is followed by another: the first
 // poll finds no abort and room in the FIFO, and readings and log are long enough.
-fn is_straight(space: u16, readings: &[u32], used: usize, room: usize) -> bool
-    requires { used ≤ length readings.now }
-    ensures { result ≡ true → Polls readings.now used × (space + 3 ≤ room) }
+fn is_straight(space: u16, recording: &Recording) -> bool
+    requires { recording.now.entries ≤ room_of recording.now }
+    ensures { result ≡ true
+        → Polls recording.now.readings.now (recording.now.used + 1)
+        × (recording.now.entries + space + 3 ≤ room_of recording.now) }
 {
-    if readings.len() - used < 2 {
-        return false;
-    }
-    if readings[used] != 0 {
-        return false;
-    }
-    if free(readings[used + 1]) == 0 {
-        return false;
-    }
-    space as usize + 3 <= room
+    has(recording, 3, usize::from(space) + 3)
+        && recording.readings[recording.used + 1] == 0
+        && 0 < free(recording.readings[recording.used + 2])
 }
 
-// The places of a round that leads straight on, to the next round or to the end; 0 where it
-// does not, or readings or log are too short for it. A round whose last place takes the last
-// byte is not the last one: as in the Rust a poll follows, and the next round finds no byte.
-fn planned(i: u16, len: u16, readings: &[u32], used: usize, entries: usize, room: usize) -> u16
+// The places of a round that leads straight on, to the next round or to the end, if it does and
+// readings and log are long enough for it. A round whose last place takes the last byte is not
+// the last one: as in the Rust a poll follows, and the next round finds no byte.
+fn planned(i: u16, len: u16, recording: &Recording) -> Option<u16>
     requires { (i ≤ len)
-        × (used ≤ length readings.now)
-        × (entries ≤ room) }
-    ensures { 0 < result → StraightFill readings.now used entries room i len result }
+        × (recording.now.entries ≤ room_of recording.now) }
+    ensures { IfSome result (λ space. StraightFill recording.now i len space) }
 {
+    if !has(recording, 1, 1) {
+        return None;
+    }
+    let space = free(recording.readings[recording.used]);
     let rest = len - i;
-    if used < readings.len() {
-        let space = free(readings[used]);
-        if rest < space {
-            if (rest as usize) < room - entries {
-                return space;
-            }
-        } else if is_straight(space, readings, used + 1, room - entries) {
-            return space;
-        }
-    }
-    0
-}
-
-// Whether the bytes end in a round. The loop over the places of another
-// round is compiled without the tests for their end and for the last byte.
-fn is_last(i: u16, len: u16, space: u16) -> bool
-    requires { i ≤ len }
-    ensures { result ≡ leb len (i + space) }
-{
-    len - i <= space
-}
-
-// Whether no byte is left. Only a last round can find that.
-fn has_ended(last: bool, i: u16, len: u16) -> bool
-    ensures { (result ≡ true → i ≡ len)
-        × (result ≡ false → last ≡ true → i ≡ len → ⊥) }
-{
-    if last {
-        if i == len {
-            return true;
-        }
-    }
-    false
+    let leads_on = if rest < space {
+        has(recording, 1, usize::from(rest) + 1)
+    } else {
+        is_straight(space, recording)
+    };
+    (0 < space && leads_on).then_some(space)
 }
 
 // The byte of a place. The last one of a coded transfer is past the
@@ -84,7 +60,7 @@ fn byte_at(last: bool, bytes: &[u8], at: usize, i: u16) -> u8
         × (last ≡ false → at + i < length bytes.now) }
     ensures { result ≡ byte_at bytes.now at i }
 {
-    let k = at + i as usize;
+    let k = at + usize::from(i);
     if last & (k == bytes.len()) {
         0
     } else {
@@ -92,98 +68,55 @@ fn byte_at(last: bool, bytes: &[u8], at: usize, i: u16) -> u8
     }
 }
 
-// How far a burst came: where it leads, the readings used and the entries in the log.
-#[derive(Clone, Copy)]
-pub struct Came {
-    pub step: Step,
-    pub used: usize,
-    pub entries: usize,
+// Fills so many places. The loop for a round that is not the last is
+// compiled without the tests for the last byte, which it does not reach.
+fn fill(t: Transfer, from: u16, count: u16, last: bool, bytes: &[u8], recording: &mut Recording)
+    requires { (from + count ≤ t.len)
+        × (last ≡ false → from + count < t.len)
+        × (t.at + t.len ≤ length bytes.now + 1)
+        × (recording.old.entries + count ≤ room_of recording.old) }
+    ensures { Filled t bytes.now from count recording.old recording.new }
+{
+    for n in 0..count {
+        let i = from + n;
+        let w = word_of_fill(byte_at(last, bytes, t.at, i), i, t.len, t.send_stop & last);
+        recording.put_write(regs::DATA_CMD, w);
+    }
 }
 
 // Round after round, until the bytes end or a round does not lead straight on. A place
-// without a byte leaves both loops: the operation waits for its STOP, or is done.
-fn run(
-    from: u16,
-    len: u16,
-    at: usize,
-    send_stop: bool,
-    bytes: &[u8],
-    readings: &[u32],
-    used: usize,
-    log: &mut [u32],
-    entries: usize,
-) -> Came
-    requires { (from ≤ len)
-        × (at + len ≤ length bytes.now + 1)
-        × (used ≤ length readings.now)
-        × (entries ≤ length log.old / 2) }
-    ensures { Fills len at send_stop bytes.now readings.now from entries used
-        log.old result.step result.entries result.used log.new }
+// without a byte ends the rounds: the operation waits for its STOP, or is done.
+fn run(t: Transfer, from: u16, bytes: &[u8], recording: &mut Recording) -> Step
+    requires { (from ≤ t.len)
+        × (t.at + t.len ≤ length bytes.now + 1)
+        × (recording.old.entries ≤ room_of recording.old) }
+    ensures { Leads t bytes.now recording.old (Go (WriteAsync (Free from))) recording.new result }
 {
-    let room = log.len() / 2;
     let mut i = from;
-    let mut u = used;
-    let mut k = entries;
-    'xmit: loop {
-        let space = planned(i, len, readings, u, k, room);
-        if space == 0 {
-            return Came {
-                step: Ok(Some(Point::WriteAsync(FillPoint::Free(i)))),
-                used: u,
-                entries: k,
-            };
+    while let Some(space) = planned(i, t.len, recording) {
+        let rest = t.len - i;
+        let count = space.min(rest);
+        let _free = read(recording, regs::TXFLR);
+        fill(t, i, count, rest <= space, bytes, recording);
+        if count < space {
+            return wait_for_stop(t.send_stop, Tried::Fine);
         }
-        put_read(log, k, regs::TXFLR, readings[u]);
-        u += 1;
-        k += 1;
-        let last = is_last(i, len, space);
-        for _ in 0..space {
-            if has_ended(last, i, len) {
-                break 'xmit;
-            }
-            let w = word_of_fill(byte_at(last, bytes, at, i), i, len, send_stop & last);
-            put_write(log, k, regs::DATA_CMD, w);
-            i += 1;
-            k += 1;
-        }
-        put_read(log, k, regs::TX_ABRT_SOURCE, readings[u]);
-        put_read(log, k + 1, regs::TXFLR, readings[u + 1]);
-        u += 2;
-        k += 2;
+        let _source = read(recording, regs::TX_ABRT_SOURCE);
+        let _again = read(recording, regs::TXFLR);
+        i += count;
     }
-    Came {
-        step: Ok(wait_for_stop(send_stop, Ok(()))),
-        used: u,
-        entries: k,
-    }
+    Step::Go(Point::WriteAsync(FillPoint::Free(i)))
 }
 
-// The rounds from a byte on, or from past the last one, where the bytes are within the buffer.
-pub fn burst(
-    from: u16,
-    len: u16,
-    at: usize,
-    send_stop: bool,
-    bytes: &[u8],
-    readings: &[u32],
-    used: usize,
-    log: &mut [u32],
-    entries: usize,
-) -> Came
-    requires { entries ≤ length log.old / 2 }
-    ensures { Fills len at send_stop bytes.now readings.now from entries used
-        log.old result.step result.entries result.used log.new }
+// The rounds from a byte on, or from past the last one, where the bytes are within the buffer,
+// and where they lead.
+pub fn burst(t: Transfer, from: u16, bytes: &[u8], recording: &mut Recording) -> Step
+    requires { recording.old.entries ≤ room_of recording.old }
+    ensures { Leads t bytes.now recording.old (Go (WriteAsync (Free from))) recording.new result }
 {
-    if from <= len {
-        if is_within(0, len, at, bytes.len(), used, readings.len()) {
-            return run(
-                from, len, at, send_stop, bytes, readings, used, log, entries,
-            );
-        }
-    }
-    Came {
-        step: Ok(Some(Point::WriteAsync(FillPoint::Free(from)))),
-        used,
-        entries,
+    if from <= t.len && is_within(0, t.len, t.at, bytes.len()) {
+        run(t, from, bytes, recording)
+    } else {
+        Step::Go(Point::WriteAsync(FillPoint::Free(from)))
     }
 }

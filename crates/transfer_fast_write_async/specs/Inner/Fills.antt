@@ -1,12 +1,11 @@
 -- Rounds of an async write, of which a burst is made: each fills the free places of the FIFO.
 use Rattle.std.specs.Prelude.{ℕ, ◌+◌, ◌-◌, ◌<◌, ◌≤◌, Bool, List, ◌≡◌, length, get_or}
 use Rattle.regs.specs.Fields.{level}
-use Rattle.transfer.specs.Inner.Points.{with_point}
-use Rattle.transfer.specs.Inner.Machine.{machine, moved_to}
+use Rattle.regs.specs.Inner.Recording.{Keeps, room_of}
+use Rattle.regs.specs.declared.access.Recording.{Recording}
+use Rattle.transfer.specs.Inner.Machine.{machine, moved_to, filling}
 use Rattle.transfer.specs.declared.Transfer.{Transfer}
-use Rattle.transfer.specs.declared.Point.TheVariants.{WriteAsync}
-use Rattle.transfer.specs.declared.FillPoint.TheVariants.{Free}
-use Rattle.transfer.specs.Inner.Machine.{StepTaken}
+use Rattle.transfer.specs.declared.Step.{Step}
 use Rattle.regs_runs.specs.Inner.Reaches.{Reaches}
 
 -- the wait for a place ends at its first poll: TX_ABRT_SOURCE is clear and TXFLR has room
@@ -17,14 +16,25 @@ pub record Polls (readings : List ℕ) (u : ℕ) : Type 0 where
 
 -- what a round does that leads straight on: it has the places that TXFLR has free. It is the last one if the bytes end
 -- before the places do: the log has room for their words. Otherwise it fills every place, and polls
-pub record StraightFill (readings : List ℕ) (u e room i len space : ℕ) : Type 0 where
-  pub space_is : space ≡ 16 - level (get_or readings u 0)
-  pub left : u + 1 ≤ length readings
-  pub last : len < i + space → e + 1 + (len - i) ≤ room
-  pub goes_on : i + space ≤ len → Polls readings (u + 1) × (e + space + 3 ≤ room)
+pub record StraightFill (r : Recording) (i len space : ℕ) : Type 0 where
+  pub some : 0 < space
+  pub space_is : space ≡ 16 - level (get_or r.readings.now r.used 0)
+  pub left : r.used + 1 ≤ length r.readings.now
+  pub last : len < i + space → r.entries + 1 + (len - i) ≤ room_of r
+  pub goes_on : i + space ≤ len → Polls r.readings.now (r.used + 1) × (r.entries + space + 3 ≤ room_of r)
 
--- whole rounds, from before byte i to where they lead: before a later byte, or past the last one
-pub record Fills (len at : ℕ) (send_stop : Bool) (bytes readings : List ℕ) (i e u : ℕ) (l : List ℕ)
-    (s : StepTaken) (e' u' : ℕ) (l' : List ℕ) : Type 0 where
-  pub reaches : (coded : Bool) (kinds lengths : List ℕ) (t : Transfer) (b : List ℕ) → t.len ≡ len → t.at ≡ at → t.send_stop ≡ send_stop
-      → Reaches (machine coded kinds lengths bytes) readings (with_point t (WriteAsync (Free i))) e u l b (moved_to coded kinds lengths t s) e' u' l' b
+-- accesses of a transfer lead from where one step goes to where another does; the read buffer is not touched
+pub record Leads (t : Transfer) (bytes : List ℕ) (before : Recording) (s : Step) (after : Recording) (s' : Step) : Type 0 where
+  pub keeps : Keeps before after
+  pub room : after.entries ≤ room_of after
+  pub reaches : (coded : Bool) (kinds lengths b : List ℕ)
+      → Reaches (machine coded kinds lengths bytes) before.readings.now (moved_to coded kinds lengths t s) before.entries
+      before.used before.log.now b (moved_to coded kinds lengths t s') after.entries after.used after.log.now b
+
+-- so many places are filled, of as many or more
+pub record Filled (t : Transfer) (bytes : List ℕ) (from count : ℕ) (before after : Recording) : Type 0 where
+  pub leads : (space : ℕ) → count ≤ space
+      → Leads t bytes before (filling t.len t.send_stop from space) after (filling t.len t.send_stop (from + count) (space - count))
+  pub keeps : Keeps before after
+  pub entries : after.entries ≡ before.entries + count
+  pub used : after.used ≡ before.used
