@@ -28,7 +28,7 @@ use Rattle.transfer.specs.declared.AbortPoint.TheVariants.{Source}
 use Rattle.transfer.specs.declared.Caller.TheVariants as C
 use Rattle.transfer.specs.declared.WaitPoint.TheVariants.{RxTl, TxTl, Mask, SetMask, Pending}
 use Rattle.transfer.specs.declared.StopPoint.TheVariants.{Stat}
-use Rattle.transfer.specs.declared.Tried.TheVariants.{Fine}
+use Rattle.std.specs.Prelude.{Ok}
 use Rattle.regs.specs.declared.access.Recording.{Recording}
 use Rattle.regs_runs.specs.Inner.Puts.{Puts}
 use Rattle.regs_runs.specs.Inner.Reaches.{Reaches}

@@ -10,7 +10,7 @@ ghost use Rattle.regs.specs.Inner.Recording.{room_of};
 ghost use Rattle.transfer_fast_polls.specs.Inner.Stays.{Stays};
 
 use regs::access::Recording;
-use transfer::{AbortPoint, Caller, Point, ReadPoint, RoundPoint, Tried, WritePoint};
+use transfer::{AbortPoint, Caller, Point, ReadPoint, RoundPoint, WritePoint};
 
 // One poll at a point, if it is one where a transfer polls, and whether it found nothing.
 // What it did not make is left to the machine.
@@ -25,7 +25,7 @@ fn poll(p: Point, recording: &mut Recording) -> bool
         Point::ReadBlocking(ReadPoint::Level(_)) => level::poll(recording),
         Point::ReadAsync(RoundPoint::Level(round)) => wait::batch(round.batch, recording),
         Point::Abort(AbortPoint::Source, Caller::Space(_)) => wait::space(recording),
-        Point::Abort(AbortPoint::Source, Caller::Stop(Tried::Fine)) => wait::stop(recording),
+        Point::Abort(AbortPoint::Source, Caller::Stop(Ok(()))) => wait::stop(recording),
         _ => false,
     }
 }

@@ -16,7 +16,6 @@ use regs::fields::{
     has_stop_det, level_of, with_m_rx_full, with_m_stop_det, with_m_tx_abrt, with_m_tx_empty,
 };
 use regs_runs::has;
-use transfer::counts::less;
 
 // INTR_MASK, read and set, and the mark: three entries.
 fn put_wait(recording: &mut Recording, mask: u32, set: u32)
@@ -51,7 +50,7 @@ pub fn batch(batch: u16, recording: &mut Recording) -> bool
             let mask = recording.readings[recording.used + 2];
             recording.put_read(regs::RXFLR, filled);
             recording.put_read(regs::TX_ABRT_SOURCE, source);
-            recording.put_write(regs::RX_TL, u32::from(less(batch)));
+            recording.put_write(regs::RX_TL, u32::from(batch.saturating_sub(1)));
             put_wait(recording, mask, with_m_tx_abrt(with_m_rx_full(mask)));
             recording.used += 3;
             return true;
@@ -98,7 +97,7 @@ fn is_going(source: u32, stat: u32) -> bool
 // No STOP yet.
 pub fn stop(recording: &mut Recording) -> bool
     requires { recording.old.entries ≤ room_of recording.old }
-    ensures stays { Stays (Abort Source (Stop Fine)) recording.old recording.new }
+    ensures stays { Stays (Abort Source (Stop (Ok tt))) recording.old recording.new }
     ensures found_nothing { result ≡ true → recording.old.entries < recording.new.entries }
 {
     if has(recording, 3, 5) {

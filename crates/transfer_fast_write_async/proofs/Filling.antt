@@ -76,21 +76,21 @@ same_word true send_stop byte i len other = rw (and_true send_stop)
 same_word false send_stop byte i len other = rw (ne_eqb (i + 1) len (λ (z : i + 1 ≡ len). omega (arith, z, other refl)))
 
 module _ {t : Transfer} {bytes : List ℕ} where
-  pub no_lead : {s : Step} {r : Recording} → r.entries ≤ length r.log.now / 2 → length r.log.now < 2 ^ 64 → Leads t bytes r s r s
+  pub no_lead : {s : StepTaken} {r : Recording} → r.entries ≤ length r.log.now / 2 → length r.log.now < 2 ^ 64 → Leads t bytes r s r s
   no_lead {r = r} room fits = record {
     keeps = keeps_all;
     room = room;
     reaches = λ coded kinds lengths b. stays (machine coded kinds lengths bytes) r.readings.now room fits;
   }
 
-  pub lead_after : {s s₁ s₂ : Step} {r r₁ r₂ : Recording} → Leads t bytes r s r₁ s₁ → Leads t bytes r₁ s₁ r₂ s₂ → Leads t bytes r s r₂ s₂
+  pub lead_after : {s s₁ s₂ : StepTaken} {r r₁ r₂ : Recording} → Leads t bytes r s r₁ s₁ → Leads t bytes r₁ s₁ r₂ s₂ → Leads t bytes r s r₂ s₂
   lead_after x y = record {
     keeps = keeps_on x.keeps y.keeps;
     room = y.room;
     reaches = λ coded kinds lengths b. then (x.reaches coded kinds lengths b) (rw x.keeps.readings at (y.reaches coded kinds lengths b));
   }
 
-  pub lead_of : {s s' : Step} {before after : Recording} {e u : ℕ} {l : List ℕ}
+  pub lead_of : {s s' : StepTaken} {before after : Recording} {e u : ℕ} {l : List ℕ}
       → Keeps before after
       → after.entries ≡ e
       → after.used ≡ u

@@ -17,7 +17,8 @@ use Rattle.transfer.specs.Inner.Machine.{machine, moved_to, next_at, next_fill, 
 use Rattle.transfer.specs.Inner.Machine.{step_fill, step_abort, free_step, full_step, places, filling, wait_stop, returned}
 use Rattle.transfer.specs.declared.Transfer.{Transfer}
 use Rattle.transfer.specs.Inner.Machine.{StepTaken, go}
-use Rattle.std.specs.Prelude.{Ok}
+use Rattle.std.specs.Prelude.{Option, Ok}
+use Rattle.transfer.specs.declared.Point.{Point}
 use Rattle.transfer.specs.declared.Point.TheVariants.{WriteAsync, Abort}
 use Rattle.transfer.specs.declared.FillPoint.TheVariants.{Free, Full}
 use Rattle.transfer.specs.declared.AbortPoint.TheVariants.{Source}
@@ -77,7 +78,7 @@ has_room {i = i} {len} {space} s j in_places in_bytes =
 module _ {t : Transfer} {bytes : List ℕ} {i space count : ℕ} {r r₁ r₂ : Recording} {v : ℕ}
     (s : StraightFill r i t.len space) (fits : length r.log.now < 2 ^ 64) (e : Reads r TXFLR v r₁)
     (within : i ≤ t.len) (few : count ≤ space) (f : Filled t bytes i count r₁ r₂) where
-  up_to : Leads t bytes r (Go (WriteAsync (Free i))) r₂ (filling t.len t.send_stop (i + count) (space - count))
+  up_to : Leads t bytes r (go (WriteAsync (Free i))) r₂ (filling t.len t.send_stop (i + count) (space - count))
   up_to =
       let room : r.entries + 1 ≤ length r.log.now / 2 = omega (arith, has_room s 0 (omega arith) (omega (arith, within))) in
       lead_after
@@ -88,18 +89,18 @@ module _ {t : Transfer} {bytes : List ℕ} {i space count : ℕ} {r r₁ r₂ : 
       (f.leads space few)
 
   -- the bytes have ended, and a place is left
-  pub last_round : {x : Step} → count < space → i + count ≡ t.len → x ≡ wait_stop t.send_stop Fine
-      → Leads t bytes r (Go (WriteAsync (Free i))) r₂ x
+  pub last_round : {x : Option Point} → count < space → i + count ≡ t.len → wait_stop t.send_stop (Ok tt) ≡ Ok x
+      → Leads t bytes r (go (WriteAsync (Free i))) r₂ (Ok x)
   last_round {x} more ended ex =
-      let is : filling t.len t.send_stop (i + count) (space - count) ≡ x =
-          rw ex (no_byte t.len t.send_stop (i + count) (space - count) ended (omega (arith, more))) in
+      let is : filling t.len t.send_stop (i + count) (space - count) ≡ Ok x =
+          no_byte t.len t.send_stop (i + count) (space - count) ended (omega (arith, more)) ∙ ex in
       rw is at up_to
 
   -- every place is filled, and a poll leads to the next round
   pub one_round : {r₃ r₄ : Recording} {v₃ v₄ : ℕ} → space ≤ count → i + count ≤ t.len
       → Reads r₂ TX_ABRT_SOURCE v₃ r₃
       → Reads r₃ TXFLR v₄ r₄
-      → Leads t bytes r (Go (WriteAsync (Free i))) r₄ (Go (WriteAsync (Free (i + count))))
+      → Leads t bytes r (go (WriteAsync (Free i))) r₄ (go (WriteAsync (Free (i + count))))
   one_round {r₃} {r₄} all in_bytes e₃ e₄ =
       let p = s.goes_on (omega (arith, all, in_bytes)) in
       let none : space - count ≡ 0 = omega (arith, all) in

@@ -6,15 +6,14 @@
 
 ghost use Rattle.std.specs.Prelude.{true, false, Option, IfSome, ◌≡◌, ◌+◌, ◌<◌, ◌≤◌, length};
 ghost use Rattle.regs.specs.Inner.Recording.{room_of};
-ghost use Rattle.transfer.specs.Inner.Machine.{byte_at};
-ghost use Rattle.transfer.specs.declared.Step.TheVariants.{Go};
+ghost use Rattle.transfer.specs.Inner.Machine.{byte_at, go};
 ghost use Rattle.transfer.specs.declared.Point.TheVariants.{WriteAsync};
 ghost use Rattle.transfer.specs.declared.FillPoint.TheVariants.{Free};
 ghost use Rattle.transfer_fast_write_async.specs.Inner.Fills.{Polls, StraightFill, Leads, Filled};
 
 use regs::access::Recording;
 use regs_runs::{has, read};
-use transfer::{FillPoint, Point, Step, Transfer, Tried};
+use transfer::{FillPoint, Point, Transfer};
 use transfer_access::words::word_of_fill;
 use transfer_after_waits::wait_for_stop;
 use transfer_fast_blocking::{free, is_within};
@@ -85,12 +84,12 @@ fn fill(t: Transfer, from: u16, count: u16, last: bool, bytes: &[u8], recording:
 }
 
 // Round after round, until the bytes end or a round does not lead straight on. A place
-// without a byte ends the rounds: the operation waits for its STOP, or is done.
-fn run(t: Transfer, from: u16, bytes: &[u8], recording: &mut Recording) -> Step
+// without a byte ends the rounds: the operation waits for its STOP, or is done, and the next one comes.
+fn run(t: Transfer, from: u16, bytes: &[u8], recording: &mut Recording) -> Option<Point>
     requires { (from ≤ t.len)
         × (t.at + t.len ≤ length bytes.now + 1)
         × (recording.old.entries ≤ room_of recording.old) }
-    ensures { Leads t bytes.now recording.old (Go (WriteAsync (Free from))) recording.new result }
+    ensures { Leads t bytes.now recording.old (go (WriteAsync (Free from))) recording.new (Ok result) }
 {
     let mut i = from;
     while let Some(space) = planned(i, t.len, recording) {
@@ -99,24 +98,24 @@ fn run(t: Transfer, from: u16, bytes: &[u8], recording: &mut Recording) -> Step
         let _free = read(recording, regs::TXFLR);
         fill(t, i, count, rest <= space, bytes, recording);
         if count < space {
-            return wait_for_stop(t.send_stop, Tried::Fine);
+            return wait_for_stop(t.send_stop, Ok(()));
         }
         let _source = read(recording, regs::TX_ABRT_SOURCE);
         let _again = read(recording, regs::TXFLR);
         i += count;
     }
-    Step::Go(Point::WriteAsync(FillPoint::Free(i)))
+    Some(Point::WriteAsync(FillPoint::Free(i)))
 }
 
 // The rounds from a byte on, or from past the last one, where the bytes are within the buffer,
 // and where they lead.
-pub fn burst(t: Transfer, from: u16, bytes: &[u8], recording: &mut Recording) -> Step
+pub fn burst(t: Transfer, from: u16, bytes: &[u8], recording: &mut Recording) -> Option<Point>
     requires { recording.old.entries ≤ room_of recording.old }
-    ensures { Leads t bytes.now recording.old (Go (WriteAsync (Free from))) recording.new result }
+    ensures { Leads t bytes.now recording.old (go (WriteAsync (Free from))) recording.new (Ok result) }
 {
     if from <= t.len && is_within(0, t.len, t.at, bytes.len()) {
         run(t, from, bytes, recording)
     } else {
-        Step::Go(Point::WriteAsync(FillPoint::Free(from)))
+        Some(Point::WriteAsync(FillPoint::Free(from)))
     }
 }

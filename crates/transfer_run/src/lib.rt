@@ -3,58 +3,33 @@
 
 ghost use Rattle.std.specs.Prelude.{◌≡◌, ◌/◌, ◌≤◌, length};
 ghost use Rattle.regs.specs.Inner.Machine.{final, ran};
+ghost use Rattle.regs.specs.Inner.Recording.{room_of};
 ghost use Rattle.transfer.specs.Inner.Machine.{machine};
 ghost use Rattle.transfer_run.specs.Inner.Steps.{Steps};
 
-use regs::access::Ran;
+use regs::access::{Ran, Recording};
+use regs::answers::Reply;
 use transfer::Transfer;
 
-// Accesses were made, so many readings are used and so many entries in the log; or the run ends.
-#[derive(Clone, Copy)]
-pub enum Stepped {
-    On(Transfer, usize, usize),
-    Stopped(Ran),
-}
-
-// What goes ahead in one loop from here, and one access.
+// What goes ahead in one loop from here, and one access; or the run ends.
 fn step(
     t: Transfer,
     coded: bool,
     kinds: &[u8],
     lengths: &[u16],
     bytes: &[u8],
-    readings: &[u32],
-    used: usize,
-    log: &mut [u32],
-    entries: usize,
+    recording: &mut Recording,
     buffer: &mut [u8],
-) -> Stepped
-    requires { entries ≤ length log.old / 2 }
-    ensures { Steps coded kinds.now lengths.now bytes.now
-        readings.now log.old buffer.old log.new
-        buffer.new t used entries result }
+) -> Result<Transfer, Reply>
+    requires { recording.old.entries ≤ room_of recording.old }
+    ensures { Steps coded kinds.now lengths.now bytes.now t recording.old buffer.old
+        recording.new buffer.new result }
 {
-    let a = transfer_fast::ahead_from(t, bytes, readings, used, log, entries, buffer);
-    let u = a.used;
-    let k = a.entries;
-    let to = a.step;
-    let s = transfer_steps::moved(t, to, coded, kinds, lengths);
-    let n = transfer_access::next_access(s, bytes);
-    match regs::access::perform(n, readings, u, log, k) {
-        Err(r) => Stepped::Stopped(Ran {
-            reply: r,
-            entries: k,
-            used: u,
-        }),
-        Ok((v, w)) => {
-            regs::access::keep(buffer, transfer_access::store(s, v));
-            Stepped::On(
-                transfer_steps::advance(s, v, coded, kinds, lengths),
-                w,
-                k + 1,
-            )
-        }
-    }
+    let reached = transfer_fast::ahead_from(t, bytes, recording, buffer);
+    let s = transfer_steps::moved(t, Ok(reached), coded, kinds, lengths);
+    let v = recording.perform(transfer_access::next_access(s, bytes))?;
+    regs::access::keep(buffer, transfer_access::store(s, v));
+    Ok(transfer_steps::advance(s, v, coded, kinds, lengths))
 }
 
 // The steps from a transfer to its end.
@@ -74,19 +49,12 @@ pub fn drive(
         readings.now (length log.old / 2) from 0 0 log.old
         buffer.old }
 {
+    let mut recording = Recording::new(readings, log);
     let mut t = from;
-    let mut entries: usize = 0;
-    let mut used: usize = 0;
     loop {
-        match step(
-            t, coded, kinds, lengths, bytes, readings, used, log, entries, buffer,
-        ) {
-            Stepped::Stopped(r) => return r,
-            Stepped::On(next, u, k) => {
-                t = next;
-                used = u;
-                entries = k;
-            }
+        match step(t, coded, kinds, lengths, bytes, &mut recording, buffer) {
+            Ok(next) => t = next,
+            Err(reply) => return recording.ran(reply),
         }
     }
 }

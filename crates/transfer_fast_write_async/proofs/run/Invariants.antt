@@ -2,7 +2,7 @@
 -- decreases.
 use Prim.Native.Nat.{◌-◌, ◌≤◌}
 use Rattle.regs.specs.Inner.Recording.{room_of}
-use Rattle.transfer.specs.declared.Step.TheVariants.{Go}
+use Rattle.transfer.specs.Inner.Machine.{go}
 use Rattle.transfer.specs.declared.Point.TheVariants.{WriteAsync}
 use Rattle.transfer.specs.declared.FillPoint.TheVariants.{Free}
 use Rattle.transfer_fast_write_async.specs.Inner.Fills.{Leads}
@@ -11,7 +11,7 @@ use Rattle.transfer_fast_write_async.proofs.run.Given as goal
 abbrev pub invariant-loop-space : goal.invariant-loop-space
 invariant-loop-space l =
     record {
-      came : Leads l.t l.bytes l.initial.recording (Go (WriteAsync (Free l.fn.from))) l.recording (Go (WriteAsync (Free l.i)));
+      came : Leads l.t l.bytes l.initial.recording (go (WriteAsync (Free l.fn.from))) l.recording (go (WriteAsync (Free l.i)));
       within : l.i ≤ l.t.len;
     }
 

@@ -3,9 +3,8 @@ use Rattle.std.specs.Prelude.{ℕ, ◌+◌, ◌-◌, ◌<◌, ◌≤◌, Bool, L
 use Rattle.regs.specs.Fields.{level}
 use Rattle.regs.specs.Inner.Recording.{Keeps, room_of}
 use Rattle.regs.specs.declared.access.Recording.{Recording}
-use Rattle.transfer.specs.Inner.Machine.{machine, moved_to, filling}
+use Rattle.transfer.specs.Inner.Machine.{machine, moved_to, filling, StepTaken}
 use Rattle.transfer.specs.declared.Transfer.{Transfer}
-use Rattle.transfer.specs.declared.Step.{Step}
 use Rattle.regs_runs.specs.Inner.Reaches.{Reaches}
 
 -- the wait for a place ends at its first poll: TX_ABRT_SOURCE is clear and TXFLR has room
@@ -24,7 +23,7 @@ pub record StraightFill (r : Recording) (i len space : ℕ) : Type 0 where
   pub goes_on : i + space ≤ len → Polls r.readings.now (r.used + 1) × (r.entries + space + 3 ≤ room_of r)
 
 -- accesses of a transfer lead from where one step goes to where another does; the read buffer is not touched
-pub record Leads (t : Transfer) (bytes : List ℕ) (before : Recording) (s : Step) (after : Recording) (s' : Step) : Type 0 where
+pub record Leads (t : Transfer) (bytes : List ℕ) (before : Recording) (s : StepTaken) (after : Recording) (s' : StepTaken) : Type 0 where
   pub keeps : Keeps before after
   pub room : after.entries ≤ room_of after
   pub reaches : (coded : Bool) (kinds lengths b : List ℕ)

@@ -1,22 +1,30 @@
 -- `step`: `ahead_from` says how far the run came, `moved` is the transfer there, and the laws of
--- proofs/Reach.antt say what one access more makes of it: it stops the run (`halts`, `ends`) or leads on
--- (`goes`).
-use native.Mathlib.Omega.{arith}
-use Rattle.regs_runs.proofs.Reach.{ends, halts, goes}
+-- regs_runs/proofs/Reach.antt say what one access more makes of it: it stops the run (`recording_halts`, `ends`) or
+-- leads on (`recording_goes`).
+use Rattle.std.proofs.Common.{arith, rules, sym, ap, ◌∙◌, ◌≡◌, Err}
+use Rattle.regs_runs.proofs.Reach.{ends, keeps_on, recording_halts, recording_goes, taken_by}
+use Rattle.regs.specs.Store.{Performed}
+use Rattle.regs.specs.Inner.Recording.{performed_in, entries_after}
 use Rattle.transfer_run.proofs.step.Goals as goal
 
-pub returns-in-Err : goal.returns-in-Err
-returns-in-Err c = let args = c.args in
-    let g = rw (← c.moved-s.ensures)
-    at (c.ahead_from-a.ensures.reaches args.coded args.kinds.now args.lengths.now) in
-    ends g
-    (halts g c.next_access-n.ensures c.perform.ensures c.in-Err.is)
+pub returns-in_err-v : goal.returns-in_err-v
+returns-in_err-v c =
+    let args = c.args in
+    let a = c.ahead_from-reached.ensures in
+    let g = rw (← c.moved-s.ensures, ← a.keeps.readings) at (a.reaches args.coded args.kinds.now args.lengths.now) in
+    let h = rw a.keeps.readings at (ends g (recording_halts g c.next_access.ensures c.perform.ensures c.in_err-v.was)) in
+    let is : c.from_residual.result ≡ Err c.in_err-v.field-0.0 = search rules in
+    rw is (keeps_on a.keeps c.perform.ensures.keeps, h)
 
-pub returns-in-Ok : goal.returns-in-Ok
-returns-in-Ok c = let args = c.args in
-    let g = rw (← c.moved-s.ensures)
-    at (c.ahead_from-a.ensures.reaches args.coded args.kinds.now args.lengths.now) in (
-      goes g c.next_access-n.ensures c.perform.ensures c.in-Ok.is
-          c.store.ensures c.keep.ensures c.advance.ensures,
-      omega (arith, g.up),
-    )
+pub returns : goal.returns
+returns c =
+    let args = c.args in
+    let a = c.ahead_from-reached.ensures in
+    let p = c.perform.ensures in
+    let g = rw (← c.moved-s.ensures, ← a.keeps.readings) at (a.reaches args.coded args.kinds.now args.lengths.now) in
+    let h = rw (p.keeps.readings, a.keeps.readings) at (recording_goes g c.next_access.ensures p c.in_ok-v.was
+        c.store.ensures c.keep.ensures c.advance.ensures) in
+    let mid = c.ahead_from-reached.new.recording in
+    let did = taken_by (performed_in mid c.next_access.result) mid.used (sym p.done ∙ c.in_ok-v.was) in
+    let more = p.entries ∙ ap (λ (x : Performed). entries_after x mid.entries) did in
+    (keeps_on a.keeps p.keeps, h, omega (arith, g.up, more))

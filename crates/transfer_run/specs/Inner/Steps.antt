@@ -1,16 +1,22 @@
 -- Steps of a transfer: its run comes to a later state, or ends.
-use Rattle.std.specs.Prelude.{ℕ, ◌/◌, ◌-◌, ◌<◌, Bool, List, ◌≡◌, length}
+use Rattle.std.specs.Prelude.{ℕ, ◌/◌, ◌-◌, ◌<◌, Bool, List, ◌≡◌, Result, Ok, Err, length}
 use Rattle.regs.specs.Inner.Machine.{final, ran}
+use Rattle.regs.specs.Inner.Recording.{Keeps, room_of}
+use Rattle.regs.specs.declared.access.Recording.{Recording}
+use Rattle.regs.specs.declared.answers.Reply.{Reply}
 use Rattle.transfer.specs.Inner.Machine.{machine}
 use Rattle.transfer.specs.declared.Transfer.{Transfer}
 use Rattle.regs_runs.specs.Inner.Reaches.{Reaches}
-use Rattle.transfer_run.specs.declared.Stepped.{Stepped}
-use Rattle.transfer_run.specs.declared.Stepped.TheVariants.{On, Stopped}
 
--- log' and buffer' are what is left of log and buffer
-abbrev pub Steps : Bool → List ℕ → List ℕ → List ℕ → List ℕ → List ℕ → List ℕ → List ℕ → List ℕ → Transfer → ℕ → ℕ → Stepped → Type 0
-Steps coded kinds lengths bytes readings log buffer log' buffer' t used entries (On t' used' entries') =
-    Reaches (machine coded kinds lengths bytes) readings t entries used log buffer t' entries' used' log' buffer' × (entries < entries')
-Steps coded kinds lengths bytes readings log buffer log' buffer' t used entries (Stopped y) =
-    final y.reply y.entries y.used log' buffer' tt
-    ≡ ran (machine coded kinds lengths bytes) readings (length log / 2 - entries) t entries used log buffer
+-- what is recorded and the buffer b, before and after
+abbrev pub Steps : Bool → List ℕ → List ℕ → List ℕ → Transfer → Recording → List ℕ → Recording → List ℕ → Result Transfer Reply → Type 0
+Steps coded kinds lengths bytes t before b after b' (Ok t') =
+    Keeps before after
+    × Reaches (machine coded kinds lengths bytes) before.readings.now t before.entries before.used before.log.now b t' after.entries
+    after.used after.log.now b'
+    × (before.entries < after.entries)
+Steps coded kinds lengths bytes t before b after b' (Err reply) =
+    Keeps before after
+    × (final reply after.entries after.used after.log.now b' tt
+    ≡ ran (machine coded kinds lengths bytes) before.readings.now (room_of before - before.entries) t before.entries before.used
+    before.log.now b)

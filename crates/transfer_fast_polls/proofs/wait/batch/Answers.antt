@@ -15,7 +15,7 @@ returns-then-is_too_few-clause-stays c = λ x is.
     let r = c.args.recording.now in
     let more = c.has.ensures c.if-has.true in
     let few : too_few x.batch (get_or r.readings.now r.used 0) (get_or r.readings.now (r.used + 1) 0) ≡ true = rw is (search rules) in
-    let write = rw (c.from.ensures, c.less.ensures, ← is) at c.put_write.ensures in
+    let write = rw (c.from.ensures, c.saturating_sub.ensures, ← is) at c.put_write.ensures in
     polled 3
     (wait_put _ _ (next_put (next_put (first_put c.put_read.ensures) c.put_read-then-is_too_few.ensures) write)
     (rw (c.with_m_tx_abrt.ensures, c.with_m_rx_full.ensures) at c.put_wait.ensures)) more.1
