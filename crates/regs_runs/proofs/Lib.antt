@@ -1,4 +1,3 @@
 -- What each way through a turn makes of a run.
 pub mod Reach
-pub mod Turns
 pub mod Putting

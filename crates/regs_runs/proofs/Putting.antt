@@ -2,9 +2,9 @@
 use Prim.Native.Nat.{ℕ, ◌+◌}
 use native.Mathlib.Omega.{arith}
 use mathlib.Core.List.{List}
-use mathlib.Core.Path.{◌≡◌, ◌∙◌}
+use mathlib.Core.Path.{◌∙◌}
 use Rattle.regs.specs.Inner.Machine.{entered}
-use Rattle.regs.specs.Inner.Recording.{Keeps, Enters}
+use Rattle.regs.specs.Inner.Recording.{Enters}
 use Rattle.regs.specs.declared.access.Recording.{Recording}
 use Rattle.regs_runs.specs.Inner.Puts.{Puts}
 use Rattle.regs_runs.proofs.Reach.{keeps_on}

@@ -1,9 +1,8 @@
-// A machine's run in parts. In specs/ is what it means that a run comes from one of
-// its states to another; here are the entries that a part of it puts into the log.
+// A machine's run in parts. In specs/ is what it means that a run comes from one of its states to
+// another; here is what a part of it asks of a recording before it goes ahead, and a read in it.
 #![tactic(auto)]
 
-ghost use Rattle.std.specs.Prelude.{true, ◌≡◌, ◌+◌, ◌/◌, ◌<◌, ◌≤◌, length};
-ghost use Rattle.regs.specs.Inner.Machine.{entered};
+ghost use Rattle.std.specs.Prelude.{true, ◌≡◌, ◌+◌, ◌<◌, ◌≤◌, length};
 ghost use Rattle.regs.specs.Inner.Recording.{room_of};
 ghost use Rattle.regs_runs.specs.Inner.Puts.{Reads};
 
@@ -34,38 +33,4 @@ pub fn read(recording: &mut Recording, register: u8) -> u32
     recording.put_read(register, v);
     recording.used += 1;
     v
-}
-
-// Entry k of a log.
-fn put(log: &mut [u32], k: usize, head: u32, v: u32)
-    requires { k < length log.old / 2 }
-    ensures { log.new ≡ entered log.old k head v }
-{
-    let at = k * 2;
-    log[at] = head;
-    log[at + 1] = v;
-}
-
-// Entry k of a log: a register was read.
-pub fn put_read(log: &mut [u32], k: usize, register: u8, v: u32)
-    requires { k < length log.old / 2 }
-    ensures { log.new ≡ entered log.old k (0x100 + register) v }
-{
-    put(log, k, 0x100 + register as u32, v);
-}
-
-// Entry k of a log: a register was written.
-pub fn put_write(log: &mut [u32], k: usize, register: u8, v: u32)
-    requires { k < length log.old / 2 }
-    ensures { log.new ≡ entered log.old k (0x200 + register) v }
-{
-    put(log, k, 0x200 + register as u32, v);
-}
-
-// Entry k of a log: a mark.
-pub fn put_mark(log: &mut [u32], k: usize, mark: u8)
-    requires { k < length log.old / 2 }
-    ensures { log.new ≡ entered log.old k (0x300 + mark) 0 }
-{
-    put(log, k, 0x300 + mark as u32, 0);
 }

@@ -1,6 +1,5 @@
 -- A transfer comes as far as the burst that begins at its point, and then as far as the polls there.
 use Prim.Native.Nat.{ℕ, ◌/◌, ◌<◌, ◌≤◌, ◌^◌}
-use mathlib.Core.Bool.{Bool}
 use mathlib.Core.List.{List}
 use mathlib.Core.Path.{◌≡◌, sym, ap}
 use lib.ListN.{length}

@@ -1,13 +1,12 @@
 -- A blocking read, byte after byte.
 use Prim.Native.Nat.{ℕ, ◌+◌, ◌/◌, ◌-◌, ◌%◌, ◌<◌, ◌≤◌, ◌^◌}
 use native.Mathlib.Omega.{arith}
-use mathlib.Core.Bool.{Bool, true, false, not, ◌&&◌, and-false}
+use mathlib.Core.Bool.{Bool, true, false, ◌&&◌, and-false}
 use mathlib.Core.List.{List}
 use mathlib.Core.Path.{◌≡◌, refl}
-use lib.Dec.{eqb, ltb}
-use lib.ListN.{length, get_or, set, length-set}
-use borrow.Author.Tests.{lt-ltb, le-ltb, ltb-true, eqb-false, not-true, ne_eqb}
-use Rattle.regs.proofs.Tests.{both_of}
+use lib.Dec.{eqb}
+use lib.ListN.{length, get_or, set}
+use borrow.Author.Tests.{lt-ltb, le-ltb, ne_eqb}
 use Rattle.regs.specs.Registers.{DATA_CMD, TXFLR, RXFLR}
 use Rattle.regs.specs.Fields.{level, dat, command_word}
 use Rattle.regs.specs.Inner.Machine.{entered}
@@ -18,9 +17,7 @@ use Rattle.transfer.specs.declared.Transfer.{Transfer}
 use Rattle.transfer.specs.declared.Point.TheVariants.{ReadBlocking}
 use Rattle.transfer.specs.declared.ReadPoint.TheVariants.{Room, Ask, Level, Take}
 use Rattle.regs_runs.specs.Inner.Reaches.{Reaches}
-use Rattle.regs_runs.proofs.Reach.{stays, did_read, did_write}
-use Rattle.transfer_fast_blocking.specs.Inner.Bursts.{Bursts, ForAny, straight_read}
-use Rattle.regs_runs.proofs.Turns.{Turns, turn}
+use Rattle.regs_runs.proofs.Reach.{did_read, did_write}
 
 module _ (coded : Bool) (kinds lengths bytes : List ℕ) {readings : List ℕ} (t : Transfer) {s₀ : Transfer} {e₀ u₀ : ℕ}
     {l₀ b₀ : List ℕ} {i e u : ℕ} {l b : List ℕ} where

@@ -1,13 +1,12 @@
 -- A blocking write, byte after byte.
-use Prim.Native.Nat.{ℕ, ◌+◌, ◌/◌, ◌-◌, ◌<◌, ◌≤◌, ◌^◌}
+use Prim.Native.Nat.{ℕ, ◌+◌, ◌/◌, ◌-◌, ◌<◌, ◌≤◌}
 use native.Mathlib.Omega.{arith}
 use mathlib.Core.Bool.{Bool, true, false, and-false}
 use mathlib.Core.List.{List}
 use mathlib.Core.Path.{◌≡◌, refl}
 use lib.Dec.{eqb}
-use lib.ListN.{length, get_or, length-set}
-use borrow.Author.Tests.{lt-ltb, eqb-true, eq-eqb, ne_eqb}
-use Rattle.regs.proofs.Tests.{both_of}
+use lib.ListN.{length, get_or}
+use borrow.Author.Tests.{lt-ltb, eq-eqb, ne_eqb}
 use Rattle.regs.specs.Registers.{DATA_CMD, RAW_INTR_STAT, TX_ABRT_SOURCE}
 use Rattle.regs.specs.Fields.{tx_empty, command_word}
 use Rattle.regs.specs.Inner.Machine.{entered}
@@ -20,9 +19,7 @@ use Rattle.transfer.specs.declared.WritePoint.TheVariants.{Send, Empty}
 use Rattle.transfer.specs.declared.AbortPoint.TheVariants.{Source}
 use Rattle.transfer.specs.declared.Caller.TheVariants.{Write}
 use Rattle.regs_runs.specs.Inner.Reaches.{Reaches}
-use Rattle.regs_runs.proofs.Reach.{stays, did_read, did_write}
-use Rattle.transfer_fast_blocking.specs.Inner.Bursts.{Bursts, ForAny, straight_write}
-use Rattle.regs_runs.proofs.Turns.{Turns, turn}
+use Rattle.regs_runs.proofs.Reach.{did_read, did_write}
 
 module _ (coded : Bool) (kinds lengths bytes : List ℕ) {readings : List ℕ} (t : Transfer) {s₀ : Transfer} {e₀ u₀ : ℕ}
     {l₀ b₀ : List ℕ} {i e u : ℕ} {l b : List ℕ} where

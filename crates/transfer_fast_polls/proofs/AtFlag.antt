@@ -1,10 +1,9 @@
 -- RAW_INTR_STAT read again and again: the flag is not set yet.
-use Prim.Native.Nat.{ℕ, ◌+◌, ◌/◌, ◌-◌, ◌<◌, ◌≤◌, ◌^◌}
-use native.Mathlib.Omega.{arith}
+use Prim.Native.Nat.{ℕ, ◌+◌, ◌/◌, ◌<◌}
 use mathlib.Core.Bool.{Bool, true, false}
 use mathlib.Core.List.{List}
 use mathlib.Core.Path.{◌≡◌, refl}
-use lib.ListN.{length, get_or, length-set}
+use lib.ListN.{length, get_or}
 use Rattle.regs.specs.Registers.{RAW_INTR_STAT}
 use Rattle.regs.specs.Inner.Machine.{entered}
 use Rattle.transfer.specs.Inner.Points.{with_point}
@@ -15,10 +14,8 @@ use Rattle.transfer.specs.declared.Point.{Point}
 use Rattle.transfer.specs.declared.Point.TheVariants.{WriteBlocking}
 use Rattle.transfer.specs.declared.WritePoint.TheVariants.{Empty, StopDet}
 use Rattle.regs_runs.specs.Inner.Reaches.{Reaches}
-use Rattle.regs_runs.proofs.Reach.{stays, did_read}
-use Rattle.regs_runs.proofs.Turns.{Polls, poll}
-use Rattle.transfer_fast_blocking.specs.Inner.Bursts.{ForAny}
-use Rattle.transfer_fast_polls.specs.Inner.Stays.{Stays, flag_set, AwaitsFlag}
+use Rattle.regs_runs.proofs.Reach.{did_read}
+use Rattle.transfer_fast_polls.specs.Inner.Stays.{flag_set, AwaitsFlag}
 
 -- the points that wait so
 pub empty_awaits : (i : ℕ) → AwaitsFlag false (WriteBlocking (Empty i))

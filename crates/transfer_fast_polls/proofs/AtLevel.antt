@@ -1,11 +1,11 @@
 -- A blocking read waits for its byte.
-use Prim.Native.Nat.{ℕ, ◌+◌, ◌/◌, ◌-◌, ◌<◌, ◌≤◌, ◌^◌}
+use Prim.Native.Nat.{ℕ, ◌+◌, ◌/◌, ◌≤◌}
 use native.Mathlib.Omega.{arith}
 use mathlib.Core.Bool.{Bool, true}
 use mathlib.Core.List.{List}
 use mathlib.Core.Path.{◌≡◌, refl}
 use lib.Dec.{eqb}
-use lib.ListN.{length, get_or, length-set}
+use lib.ListN.{length, get_or}
 use Rattle.regs.proofs.Tests.{both_of}
 use Rattle.regs.specs.Registers.{RXFLR, TX_ABRT_SOURCE}
 use Rattle.regs.specs.Fields.{level}
@@ -19,10 +19,8 @@ use Rattle.transfer.specs.declared.ReadPoint.TheVariants.{Level}
 use Rattle.transfer.specs.declared.AbortPoint.TheVariants.{Source}
 use Rattle.transfer.specs.declared.Caller.TheVariants.{Read}
 use Rattle.regs_runs.specs.Inner.Reaches.{Reaches}
-use Rattle.regs_runs.proofs.Reach.{stays, did_read}
-use Rattle.regs_runs.proofs.Turns.{Polls, poll}
-use Rattle.transfer_fast_blocking.specs.Inner.Bursts.{ForAny}
-use Rattle.transfer_fast_polls.specs.Inner.Stays.{Stays, no_byte}
+use Rattle.regs_runs.proofs.Reach.{did_read}
+use Rattle.transfer_fast_polls.specs.Inner.Stays.{no_byte}
 
 module _ (coded : Bool) (kinds lengths bytes : List ℕ) {readings : List ℕ} (t : Transfer) {s₀ : Transfer} {e₀ u₀ : ℕ}
     {l₀ b₀ : List ℕ} {i e u : ℕ} {l b : List ℕ} where

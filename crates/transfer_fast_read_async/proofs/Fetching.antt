@@ -96,9 +96,9 @@ module _ {t : Transfer} {remaining count : ℕ} {before : Recording} {b : List �
       let fewer : count - n - 1 ≡ count - (n + 1) = omega arith in
       let place : ℕ = t.at + (t.len - remaining - count) + n in
       let to : (t.at + (t.len - remaining - (count - n))) % 2 ^ 64 ≡ place =
-          let exact : t.at + (t.len - remaining - (count - n)) ≡ place = omega (arith, within, more) in
-          let low : place < 2 ^ 64 = omega (arith, within, more, some, held, small) in
-          rw exact (omega (arith, low)) in
+      let exact : t.at + (t.len - remaining - (count - n)) ≡ place = omega (arith, within, more) in
+      let low : place < 2 ^ 64 = omega (arith, within, more, some, held, small) in
+      rw exact (omega (arith, low)) in
       let space : mid.entries < length mid.log.now / 2 = rw g.keeps.size (omega (arith, g.entries, room, more)) in
       let has : mid.used < length mid.readings.now = rw g.keeps.readings (omega (arith, g.used, left, more)) in
       let short : length mid.log.now < 2 ^ 64 = rw g.keeps.size fits in

@@ -3,7 +3,7 @@ use Prim.Native.Nat.{ℕ, ◌+◌, ◌/◌, ◌-◌, ◌<◌, ◌≤◌, ◌^◌
 use native.Mathlib.Omega.{arith}
 use mathlib.Core.Bool.{Bool}
 use mathlib.Core.List.{List}
-use mathlib.Core.Path.{◌≡◌, refl, sym, ◌∙◌}
+use mathlib.Core.Path.{◌≡◌, refl, ◌∙◌}
 use lib.ListN.{length, get_or}
 use borrow.Author.Tests.{le-ltb, eq-eqb, ne_eqb}
 use Rattle.regs.specs.Registers.{TXFLR, RXFLR, TX_ABRT_SOURCE}
@@ -85,22 +85,22 @@ pub round_done : {t : Transfer} {x : Round} {words count : ℕ} {r r₁ r₂ r�
 round_done {t} {x} {words} {count} {r} {r₁} {r₂} {r₃} {r₄} {r₅} {b} {b'} s fits e₁ q e₃ e₄ f bytes =
     let room : r.entries + 1 ≤ length r.log.now / 2 = omega (arith, s.fits) in
     let g₁ : Bursts t bytes r b (ReadAsync (Capacity x)) r₁ b (ReadAsync (Queue (round x.remaining x.queue words) words)) =
-        burst_of e₁.keeps e₁.entries e₁.used e₁.log room refl
-        (λ coded kinds lengths. rw e₁.value (counted coded kinds lengths bytes t x.remaining x.queue x.batch words count
-        (stays (machine coded kinds lengths bytes) r.readings.now (omega (arith, room)) fits) s.some s.words_are
-        (omega (arith, room)) (omega (arith, s.left)))) in
+    burst_of e₁.keeps e₁.entries e₁.used e₁.log room refl
+    (λ coded kinds lengths. rw e₁.value (counted coded kinds lengths bytes t x.remaining x.queue x.batch words count
+    (stays (machine coded kinds lengths bytes) r.readings.now (omega (arith, room)) fits) s.some s.words_are
+    (omega (arith, room)) (omega (arith, s.left)))) in
     let g₂ = burst_after g₁ (q.bursts bytes b x.remaining words) in
     let u₂ : r₂.used ≡ r.used + 1 = q.used ∙ e₁.used in
     let same : r₂.readings.now ≡ r.readings.now = g₂.keeps.readings in
     let u₃ : r₂.used + 1 ≡ r.used + 2 = omega (arith, u₂) in
     let room₂ : r₂.entries + 2 ≤ length r₂.log.now / 2 =
-        rw g₂.keeps.size (omega (arith, s.fits, q.entries, e₁.entries)) in
+    rw g₂.keeps.size (omega (arith, s.fits, q.entries, e₁.entries)) in
     let g₃ : Bursts t bytes r₂ b (ReadAsync (Level (round x.remaining (x.queue - words) words))) r₄ b
-        (ReadAsync (Fetch (round (x.remaining - count) (x.queue - words) words) count)) =
-        burst_of (keeps_on e₃.keeps e₄.keeps) (omega (arith, e₃.entries, e₄.entries)) (omega (arith, e₃.used, e₄.used))
-        (rw (e₃.log, e₃.entries, e₃.value, e₄.value, e₃.keeps.readings, e₃.used) at e₄.log) room₂ refl
-        (λ coded kinds lengths. polled coded kinds lengths bytes t x.remaining (x.queue - words) words words count
-        (stays (machine coded kinds lengths bytes) r₂.readings.now (omega (arith, room₂)) (rw g₂.keeps.size fits)) s.some
-        (omega (arith, s.more)) (rw (same, u₂) s.filled) (rw (same, u₃) s.quiet) (rw (same, u₂) s.count_is) room₂
-        (rw same (omega (arith, s.left, u₂)))) in
+    (ReadAsync (Fetch (round (x.remaining - count) (x.queue - words) words) count)) =
+    burst_of (keeps_on e₃.keeps e₄.keeps) (omega (arith, e₃.entries, e₄.entries)) (omega (arith, e₃.used, e₄.used))
+    (rw (e₃.log, e₃.entries, e₃.value, e₄.value, e₃.keeps.readings, e₃.used) at e₄.log) room₂ refl
+    (λ coded kinds lengths. polled coded kinds lengths bytes t x.remaining (x.queue - words) words words count
+    (stays (machine coded kinds lengths bytes) r₂.readings.now (omega (arith, room₂)) (rw g₂.keeps.size fits)) s.some
+    (omega (arith, s.more)) (rw (same, u₂) s.filled) (rw (same, u₃) s.quiet) (rw (same, u₂) s.count_is) room₂
+    (rw same (omega (arith, s.left, u₂)))) in
     burst_after (burst_after g₂ g₃) (f.bursts bytes (x.queue - words) words)

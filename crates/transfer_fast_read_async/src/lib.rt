@@ -77,7 +77,11 @@ fn planned(round: Round, recording: &Recording) -> Option<Plan>
         && words <= filled
         && source == 0
         && count < round.remaining
-        && has(recording, usize::from(count) + 3, usize::from(words) + usize::from(count) + 3);
+        && has(
+            recording,
+            usize::from(count) + 3,
+            usize::from(words) + usize::from(count) + 3,
+        );
     is_straight.then_some(Plan { words, count })
 }
 

@@ -4,10 +4,9 @@ use Prim.Native.Nat.{ℕ, ◌+◌, ◌/◌, ◌-◌, ◌<◌, ◌≤◌, ◌^◌
 use native.Mathlib.Omega.{arith}
 use mathlib.Core.Bool.{Bool, true, false, ◌&&◌}
 use mathlib.Core.List.{List}
-use mathlib.Core.Path.{◌≡◌, refl, sym, ◌∙◌}
-use lib.ListN.{length, length-set, get_or}
-use lib.Dec.{leb}
-use borrow.Author.Tests.{ne_eqb, lt-ltb, le-ltb, leb-true, leb-false, le-leb, lt-leb}
+use mathlib.Core.Path.{◌≡◌, refl, ◌∙◌}
+use lib.ListN.{length, get_or}
+use borrow.Author.Tests.{ne_eqb, lt-ltb, le-ltb}
 use Rattle.regs.specs.Registers.{DATA_CMD}
 use Rattle.regs.specs.Inner.Machine.{entered}
 use Rattle.regs.specs.Inner.Recording.{Keeps, Enters}

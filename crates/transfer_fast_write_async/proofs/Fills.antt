@@ -16,7 +16,7 @@ use Rattle.transfer.specs.Inner.Points.{with_point}
 use Rattle.transfer.specs.Inner.Machine.{machine, moved_to, next_at, next_fill, next_abort, store_at, step_of}
 use Rattle.transfer.specs.Inner.Machine.{step_fill, step_abort, free_step, full_step, places, filling, wait_stop, returned}
 use Rattle.transfer.specs.declared.Transfer.{Transfer}
-use Rattle.transfer.specs.Inner.Machine.{StepTaken, go}
+use Rattle.transfer.specs.Inner.Machine.{go}
 use Rattle.std.specs.Prelude.{Option, Ok}
 use Rattle.transfer.specs.declared.Point.{Point}
 use Rattle.transfer.specs.declared.Point.TheVariants.{WriteAsync, Abort}
@@ -93,7 +93,7 @@ module _ {t : Transfer} {bytes : List ℕ} {i space count : ℕ} {r r₁ r₂ : 
       → Leads t bytes r (go (WriteAsync (Free i))) r₂ (Ok x)
   last_round {x} more ended ex =
       let is : filling t.len t.send_stop (i + count) (space - count) ≡ Ok x =
-          no_byte t.len t.send_stop (i + count) (space - count) ended (omega (arith, more)) ∙ ex in
+      no_byte t.len t.send_stop (i + count) (space - count) ended (omega (arith, more)) ∙ ex in
       rw is at up_to
 
   -- every place is filled, and a poll leads to the next round

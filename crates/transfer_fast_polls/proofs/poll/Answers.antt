@@ -4,7 +4,6 @@ use mathlib.Core.Path.{◌≡◌, refl, ap, ◌∙◌}
 use Rattle.transfer.specs.declared.AbortPoint.{AbortPoint}
 use Rattle.transfer.specs.declared.AbortPoint.TheVariants.{Source}
 use Rattle.transfer.specs.declared.Caller.TheVariants.{Space}
-use Rattle.transfer.specs.declared.Point.{Point}
 use Rattle.transfer.specs.declared.Point.TheVariants.{Abort, ReadAsync, ReadBlocking, WriteBlocking}
 use Rattle.transfer.specs.declared.ReadPoint.TheVariants as ReadPoint
 use Rattle.transfer.specs.declared.RoundPoint.TheVariants as RoundPoint
@@ -40,6 +39,6 @@ pub returns-in-Abort-Source-Space-clause-stays : goal.returns-in-Abort-Source-Sp
 returns-in-Abort-Source-Space-clause-stays c =
     let arm = c.in-Abort-Source-Space in
     let at : c.args.p ≡ Abort Source (Space arm.field-1-0) =
-        arm.is ∙ ap (λ (a : AbortPoint). Abort a arm.field-1) (rw arm.is at arm.field-0-is)
-        ∙ ap (Abort Source) (rw arm.is at arm.field-1-is) in
+    arm.is ∙ ap (λ (a : AbortPoint). Abort a arm.field-1) (rw arm.is at arm.field-0-is)
+    ∙ ap (Abort Source) (rw arm.is at arm.field-1-is) in
     rw at (c.space.ensures.stays _)

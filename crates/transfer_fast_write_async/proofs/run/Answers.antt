@@ -1,6 +1,6 @@
 -- `run`: a round leads on to the next (`one_round` of proofs/Fills.antt) or to the operation's end (`last_round`), and
 -- `lead_after` adds it to the rounds before it.
-use Rattle.std.proofs.Common.{arith, ◌≡◌, ◌≤◌, ◌+◌}
+use Rattle.std.proofs.Common.{arith, ◌≤◌, ◌+◌}
 use Rattle.transfer_fast_write_async.proofs.Filling.{lead_after}
 use Rattle.transfer_fast_write_async.proofs.Fills.{one_round, last_round}
 use Rattle.transfer_fast_write_async.proofs.run.Goals as goal

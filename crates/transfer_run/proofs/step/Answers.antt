@@ -23,7 +23,7 @@ returns c =
     let p = c.perform.ensures in
     let g = rw (← c.moved-s.ensures, ← a.keeps.readings) at (a.reaches args.coded args.kinds.now args.lengths.now) in
     let h = rw (p.keeps.readings, a.keeps.readings) at (recording_goes g c.next_access.ensures p c.in_ok-v.was
-        c.store.ensures c.keep.ensures c.advance.ensures) in
+    c.store.ensures c.keep.ensures c.advance.ensures) in
     let mid = c.ahead_from-reached.new.recording in
     let did = taken_by (performed_in mid c.next_access.result) mid.used (sym p.done ∙ c.in_ok-v.was) in
     let more = p.entries ∙ ap (λ (x : Performed). entries_after x mid.entries) did in

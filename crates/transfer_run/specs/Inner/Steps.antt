@@ -1,5 +1,5 @@
 -- Steps of a transfer: its run comes to a later state, or ends.
-use Rattle.std.specs.Prelude.{ℕ, ◌/◌, ◌-◌, ◌<◌, Bool, List, ◌≡◌, Result, Ok, Err, length}
+use Rattle.std.specs.Prelude.{ℕ, ◌-◌, ◌<◌, Bool, List, ◌≡◌, Result, Ok, Err}
 use Rattle.regs.specs.Inner.Machine.{final, ran}
 use Rattle.regs.specs.Inner.Recording.{Keeps, room_of}
 use Rattle.regs.specs.declared.access.Recording.{Recording}
