@@ -67,6 +67,7 @@ pub const WRITTEN: u32 = 0x50000;
 pub const READ_SLOT: u32 = 0x60000;
 
 impl Direction {
+    // No From: a word has a direction beside much else, so a conversion would say less than this name does.
     fn of(w: u32) -> Direction
         ensures { result ≡ direction_of w }
     {

@@ -2,6 +2,7 @@
 // UM10204 and the datasheet's DATA_CMD make of them, worked out by hand.
 #![tactic(auto)]
 
+use std::fmt;
 use std::io::Print;
 
 // The heads of log entries: a write to TAR and to DATA_CMD.
@@ -9,62 +10,40 @@ const TAR: u32 = 0x204;
 
 const DATA_CMD: u32 = 0x210;
 
-// What cannot be written is missing from the output, and what follows is tried all the same.
-fn say(rt: HostRuntime, text: &[u8]) {
-    let _ = rt.stdout().write_all(text);
-}
-
-// Two hexadecimal digits or more.
-fn say_hex(rt: HostRuntime, value: u32) {
-    let _ = print!(rt; "{value:02x}");
-}
-
-fn say_direction(rt: HostRuntime, address: u32) {
-    if address % 2 == 0 {
-        say(rt, b"w");
-    } else {
-        say(rt, b"r");
-    }
-}
-
 // One entry of a sequence: an address with w or r for its direction, a written byte, or -- for a read slot.
-fn say_sign(rt: HostRuntime, word: u32) {
-    let value = word % 0x10000;
-    match word - value {
-        bus::START => say(rt, b" START"),
-        bus::RESTART => say(rt, b" RESTART"),
-        bus::STOP => say(rt, b" STOP"),
-        bus::READ_SLOT => say(rt, b" --"),
-        bus::ADDRESS => {
-            say(rt, b" ");
-            say_hex(rt, value / 2);
-            say_direction(rt, value);
-        }
-        _ => {
-            say(rt, b" ");
-            say_hex(rt, value);
+#[derive(Clone, Copy)]
+struct Sign(u32);
+
+impl fmt::Display for Sign {
+    fn fmt<W: fmt::Write>(&self, f: &mut fmt::Formatter<W>) -> fmt::Result {
+        let value = self.0 % 0x10000;
+        match self.0 - value {
+            bus::START => f.write_str(" START"),
+            bus::RESTART => f.write_str(" RESTART"),
+            bus::STOP => f.write_str(" STOP"),
+            bus::READ_SLOT => f.write_str(" --"),
+            bus::ADDRESS => {
+                let direction = if value % 2 == 0 { 'w' } else { 'r' };
+                write!(f, " {:02x}{direction}", value / 2)
+            }
+            _ => write!(f, " {value:02x}"),
         }
     }
 }
 
-// The places of a buffer that hold a sequence.
-fn say_held(rt: HostRuntime, places: &[u32], count: usize) {
+// What a buffer holds of a sequence, and the number of places that the whole takes. What cannot
+// be written is missing from the output, and what follows is tried all the same.
+fn say_sequence(rt: HostRuntime, name: &str, places: &[u32], count: usize) {
+    let _ = print!(rt; "{name}");
     for &word in places.iter().take(count) {
-        say_sign(rt, word);
+        let sign = Sign(word);
+        let _ = print!(rt; "{sign}");
     }
-}
-
-// What a buffer holds of a sequence, and the number of places that the whole takes.
-fn say_sequence(rt: HostRuntime, name: &[u8], places: &[u32], count: usize) {
-    say(rt, name);
-    say_held(rt, places, count);
-    say(rt, b" (");
-    let _ = print!(rt; "{count}");
-    say(rt, b")\n");
+    let _ = println!(rt; " ({count})");
 }
 
 // The sequence of a log, put into the places that are lent for it.
-fn show(rt: HostRuntime, places: &mut [u32], name: &[u8], log: &[u32]) {
+fn show(rt: HostRuntime, places: &mut [u32], name: &str, log: &[u32]) {
     let count = bus::bus_sequence(log, places);
     say_sequence(rt, name, places, count);
 }
@@ -74,28 +53,28 @@ fn single(rt: HostRuntime) {
     show(
         rt,
         &mut [0; 16],
-        b"one-byte read:",
+        "one-byte read:",
         &[TAR, 0x50, DATA_CMD, 0x700],
     );
     show(
         rt,
         &mut [0; 16],
-        b"two bytes written:",
+        "two bytes written:",
         &[TAR, 0x50, DATA_CMD, 0x012, DATA_CMD, 0x234],
     );
     show(
         rt,
         &mut [0; 16],
-        b"general call:",
+        "general call:",
         &[TAR, 0x00, DATA_CMD, 0x206],
     );
     show(
         rt,
         &mut [0; 16],
-        b"highest address:",
+        "highest address:",
         &[TAR, 0x7f, DATA_CMD, 0x3ff],
     );
-    show(rt, &mut [0; 16], b"no STOP:", &[TAR, 0x50, DATA_CMD, 0x012]);
+    show(rt, &mut [0; 16], "no STOP:", &[TAR, 0x50, DATA_CMD, 0x012]);
 }
 
 // Words that start, join or part operations.
@@ -103,31 +82,31 @@ fn several(rt: HostRuntime) {
     show(
         rt,
         &mut [0; 16],
-        b"write, then read:",
+        "write, then read:",
         &[TAR, 0x50, DATA_CMD, 0x012, DATA_CMD, 0x300],
     );
     show(
         rt,
         &mut [0; 16],
-        b"reads joined:",
+        "reads joined:",
         &[TAR, 0x50, DATA_CMD, 0x100, DATA_CMD, 0x100, DATA_CMD, 0x300],
     );
     show(
         rt,
         &mut [0; 16],
-        b"RESTART on a busy bus:",
+        "RESTART on a busy bus:",
         &[TAR, 0x50, DATA_CMD, 0x012, DATA_CMD, 0x434, DATA_CMD, 0x256],
     );
     show(
         rt,
         &mut [0; 16],
-        b"RESTART on an idle bus:",
+        "RESTART on an idle bus:",
         &[TAR, 0x50, DATA_CMD, 0x412, DATA_CMD, 0x234],
     );
     show(
         rt,
         &mut [0; 16],
-        b"STOP, then again:",
+        "STOP, then again:",
         &[TAR, 0x50, DATA_CMD, 0x212, DATA_CMD, 0x300],
     );
 }
@@ -137,7 +116,7 @@ fn others(rt: HostRuntime) {
     show(
         rt,
         &mut [0; 16],
-        b"other entries:",
+        "other entries:",
         &[
             0x26c, 0, TAR, 0x50, 0x26c, 1, 0x134, 0x10, DATA_CMD, 0x2a5, 0x300, 0, 0x110, 0x55,
             0x230, 0x210,
@@ -146,15 +125,15 @@ fn others(rt: HostRuntime) {
     show(
         rt,
         &mut [0; 16],
-        b"odd last word:",
+        "odd last word:",
         &[TAR, 0x50, DATA_CMD, 0x25a, DATA_CMD],
     );
-    show(rt, &mut [0; 16], b"no address:", &[DATA_CMD, 0x25a]);
-    show(rt, &mut [0; 16], b"no words:", &[TAR, 0x50]);
+    show(rt, &mut [0; 16], "no address:", &[DATA_CMD, 0x25a]);
+    show(rt, &mut [0; 16], "no words:", &[TAR, 0x50]);
     show(
         rt,
         &mut [0; 2],
-        b"two places:",
+        "two places:",
         &[TAR, 0x50, DATA_CMD, 0x700],
     );
 }

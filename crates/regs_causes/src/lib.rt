@@ -21,7 +21,7 @@ pub fn causes(word: u32) -> Option<Counted>
         return None;
     }
     Some(Counted {
-        count: u32::count_ones(masked) as u8,
-        lowest: u32::trailing_zeros(masked) as u8,
+        count: masked.count_ones() as u8,
+        lowest: masked.trailing_zeros() as u8,
     })
 }
