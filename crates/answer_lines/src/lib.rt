@@ -3,18 +3,19 @@
 #![tactic(auto)]
 
 ghost use Rattle.std.specs.Prelude.{◌≡◌, ◌≤◌, length};
+ghost use Rattle.text_hex.specs.Added.{Room, Added};
 ghost use Rattle.text_hex.specs.Appended.{Appended};
 ghost use Rattle.answer_lines.specs.Lines.{number_after, no_frame, warning, LOG_WORDS, KeptOn};
 
 use answer_frames::frame_in;
-use text_tables::ends::push_digits;
-use text_tables::ends::push_text;
+use text_hex::text::Text;
+use text_tables::decimal::push_digits;
 
 // The number of the line behind so many others.
 pub fn number_after(lines: u64) -> u64
     ensures { result ≡ number_after lines }
 {
-    if lines < u64::MAX { lines + 1 } else { lines }
+    lines.saturating_add(1)
 }
 
 // Whether a line is no answer frame.
@@ -24,14 +25,23 @@ pub fn no_frame(line: &[u8]) -> bool
     line.len() > explain_frames::LONGEST || frame_in(line).is_none()
 }
 
+fn warn(text: &mut Text, number: u64)
+    requires { Room 47 text.old }
+    ensures { Added text.old (warning number) 47 text.new }
+{
+    text.push_text(b"line ");
+    push_digits(text, 20, number);
+    text.push_text(b": not an answer frame\n");
+}
+
 // The text of a line that is no answer frame, at the start of a lent buffer. Says where it ends.
 pub fn push_warning(out: &mut [u8], number: u64) -> usize
     requires { 47 ≤ length out.old }
     ensures { Appended out.old 0 (warning number) 47 out.new result }
 {
-    let a = push_text(out, 0, b"line ");
-    let b = push_digits(out, a, 20, number);
-    push_text(out, b, b": not an answer frame\n")
+    let mut text = Text::new(out, 0);
+    warn(&mut text, number);
+    text.at
 }
 
 // Adds to the log of the open call what a line adds. Says where the log ends.
@@ -40,6 +50,5 @@ pub fn keep_on(line: &[u8], log: &mut [u32], used: usize) -> usize
         × (used ≤ LOG_WORDS) }
     ensures { KeptOn log.old used line.now log.new result }
 {
-    let end = explain_bus::kept::keep(line, log, used);
-    counts::least(end, log.len())
+    explain_bus::kept::keep(line, log, used).min(log.len())
 }

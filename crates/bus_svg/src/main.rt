@@ -6,7 +6,7 @@
 // because the input could not be read to its end, or it could not be written, standard error says so.
 #![tactic(auto)]
 
-ghost use Rattle.std.specs.Prelude.{[], ◌≡◌, ◌<◌, ◌≤◌, length, if◌then◌else◌};
+ghost use Rattle.std.specs.Prelude.{[], ◌≡◌, ◌≤◌, length, if◌then◌else◌};
 ghost use Rattle.text_hex.specs.Appended.{Appended};
 ghost use Rattle.text_stdin.specs.Reads.{is_ended_at};
 ghost use Rattle.answer_lines.specs.Lines.{LOG_WORDS};
@@ -32,18 +32,6 @@ fn put(rt: HostRuntime, picture: bool, text: &[u8]) -> bool {
     rt.stderr().write_all(text).is_ok()
 }
 
-// A proved loop ends, so it counts its turns down from a number that no
-// run uses up. After the picture, or a write that failed, none is left.
-fn turns_left(turns: u64, done: bool, written: bool) -> u64
-    requires { 0 < turns }
-    ensures { result < turns }
-{
-    if done {
-        return 0;
-    }
-    if written { turns - 1 } else { 0 }
-}
-
 // Line after line to the picture, or to the end of the input.
 fn draw_all(
     rt: HostRuntime,
@@ -61,19 +49,20 @@ fn draw_all(
     let mut source = text_stdin::start();
     let mut kept = svg_lines::start();
     let mut written = true;
-    let mut turns = u64::MAX;
-    while turns > 0 {
+    // A proved loop ends, so it counts its turns up to a number that no run reaches.
+    for _ in 0..u64::MAX {
         let l = next_line(rt, source, chunk, line);
         source = l.source;
-        if l.some {
-            let held = l.held;
-            let s = svg_lines::draw_line(kept, line, held, log, places, out);
-            kept = s.kept;
-            let made = s.made;
-            written = put(rt, s.picture, &out[..made]);
-            turns = turns_left(turns, kept.done, written);
-        } else {
-            turns = 0;
+        if !l.some {
+            break;
+        }
+        let held = l.held;
+        let s = svg_lines::draw_line(kept, line, held, log, places, out);
+        kept = s.kept;
+        let made = s.made;
+        written = put(rt, s.picture, &out[..made]);
+        if kept.done || !written {
+            break;
         }
     }
     let end = source.end;

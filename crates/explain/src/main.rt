@@ -6,7 +6,7 @@
 // standard error says so.
 #![tactic(auto)]
 
-ghost use Rattle.std.specs.Prelude.{◌≡◌, ◌+◌, ◌<◌, length};
+ghost use Rattle.std.specs.Prelude.{◌≡◌, ◌+◌, length};
 ghost use Rattle.answer_lines.specs.Lines.{LOG_WORDS};
 ghost use Rattle.explain_lines.specs.Printed.{LINE_ROOM};
 ghost use Rattle.explain_lines.specs.Inner.Said.{PLACES, BUS_ROOM};
@@ -20,15 +20,6 @@ use text_stdin::reads::End;
 struct Stopped {
     end: End,
     written: bool,
-}
-
-// A proved loop ends, so it counts its turns down from a number
-// that no run uses up. After a write that failed none is left.
-fn turns_left(turns: u64, written: bool) -> u64
-    requires { 0 < turns }
-    ensures { result < turns }
-{
-    if written { turns - 1 } else { 0 }
 }
 
 // Line after line to the end of the input.
@@ -48,19 +39,20 @@ fn explain_all(
     let mut source = text_stdin::start();
     let mut call = explain_lines::start();
     let mut written = true;
-    let mut turns = u64::MAX;
-    while turns > 0 {
+    // A proved loop ends, so it counts its turns up to a number that no run reaches.
+    for _ in 0..u64::MAX {
         let l = next_line(rt, source, chunk, line);
         source = l.source;
-        if l.some {
-            let held = l.held;
-            let s = explain_lines::explain_line(call, line, held, log, places, out);
-            call = s.call;
-            let made = s.made;
-            written = rt.stdout().write_all(&out[..made]).is_ok();
-            turns = turns_left(turns, written);
-        } else {
-            turns = 0;
+        if !l.some {
+            break;
+        }
+        let held = l.held;
+        let s = explain_lines::explain_line(call, line, held, log, places, out);
+        call = s.call;
+        let made = s.made;
+        written = rt.stdout().write_all(&out[..made]).is_ok();
+        if !written {
+            break;
         }
     }
     let end = source.end;

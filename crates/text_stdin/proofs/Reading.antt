@@ -1,13 +1,14 @@
 -- A line over several reads: what the bytes of all of them together make.
-use Prim.Native.Nat.{ℕ, zero, suc, ◌-◌, ◌<◌, ◌≤◌}
+use Prim.Native.Nat.{ℕ, zero, suc, ◌+◌, ◌≤◌}
 use native.Mathlib.Omega.{arith}
-use mathlib.Core.Bool.{Bool, true, false}
+use native.Mathlib.Numerals.{add-one}
+use mathlib.Core.Bool.{Bool, true, false, true≢false}
 use mathlib.Core.List.{List, [], ◌∷◌, ◌++◌, append_assoc, append-nil}
 use mathlib.Core.Path.{◌≡◌, refl, sym, ap, ◌∙◌}
 use lib.ListN.{length, take}
 use lib.Seq.{slice, length-slice}
-use Rattle.text_stdin.specs.Reads.{Counted, Brought, Reads, none, bytes, answered_0, failed}
-use Rattle.text_stdin.specs.Handed.{before_lf, unread, counted, Took, HandedOut, MOST_READS, left_by, stands, is_line}
+use Rattle.text_stdin.specs.Reads.{is_open_at, Counted, Brought, Reads, none, bytes, answered_0, failed}
+use Rattle.text_stdin.specs.Handed.{before_lf, unread, counted, Took, HandedOut, MOST_READS, stands, is_line}
 use Rattle.text_stdin.specs.declared.Source.{Source}
 use Rattle.text_stdin.specs.declared.Part.{Part}
 use Rattle.text_stdin.specs.declared.reads.End.{End}
@@ -30,45 +31,23 @@ more_reads {from} {n} {came} {chunk} {r} p b = by_end r.count r.end b.inside b.c
     by_end count Failed i h = rw (h, append-nil) (failed p)
     by_end count OutOfTurns i h = absurd h
 
--- ---- what may follow
+open_only : (e : End) → is_open_at e ≡ true → e ≡ Open
+open_only Open h = refl
+open_only Ended h = absurd (true≢false (sym h))
+open_only Failed h = absurd (true≢false (sym h))
+open_only OutOfTurns h = absurd (true≢false (sym h))
 
--- where a read may follow, the line has not ended and the input is open
-record Goes (ended : Bool) (e : End) (turns n : ℕ) : Type 0 where
-  line : ended ≡ false
-  input : e ≡ Open
-  all : turns ≡ n
-
-goes_on : (ended : Bool) (e : End) {n turns : ℕ} → turns ≡ left_by ended e n → 0 < turns → Goes ended e turns n
-goes_on true e t h = absurd (omega arith)
-goes_on false Open t h = record { line = refl; input = refl; all = t }
-goes_on false Ended t h = absurd (omega arith)
-goes_on false Failed t h = absurd (omega arith)
-goes_on false OutOfTurns t h = absurd (omega arith)
-
--- fewer reads may follow a read
-pub left_less : (ended : Bool) (e : End) {turns turns' : ℕ} → turns' ≡ left_by ended e (turns - 1) → 0 < turns → turns' < turns
-left_less true e l h = omega arith
-left_less false Open l h = omega arith
-left_less false Ended l h = omega arith
-left_less false Failed l h = omega arith
-left_less false OutOfTurns l h = omega arith
-
--- some bytes came behind those that were unread; so many reads may follow
-pub record Reading (from : End) (bytes chunk line : List ℕ) (p : Part) (e : End) (turns : ℕ) : Type 0 where
-  pub count : ℕ
+-- some bytes came behind those that were unread, by so many reads
+pub record Reading (from : End) (bytes chunk line : List ℕ) (p : Part) (e : End) (count : ℕ) : Type 0 where
   pub came : List ℕ
   pub reads : Reads from count came e
   pub took : Took (bytes ++ came) 0 [] chunk line p
-  pub most : count ≤ MOST_READS
-  pub left : turns ≡ left_by p.ended e (MOST_READS - count)
 
-pub reading_none : {from : End} {bytes line₀ chunk line : List ℕ} {p : Part} {turns : ℕ}
+pub reading_none : {from : End} {bytes line₀ chunk line : List ℕ} {p : Part}
     → Took bytes 0 line₀ chunk line p
-    → turns ≡ left_by p.ended from MOST_READS
-    → Reading from bytes chunk line p from turns
-reading_none t l =
+    → Reading from bytes chunk line p from 0
+reading_none t =
     record {
-      count = 0;
       came = [];
       reads = none;
       took = rw append-nil (record {
@@ -79,8 +58,6 @@ reading_none t l =
         order = t.order;
         inside = t.inside;
       });
-      most = omega arith;
-      left = l;
     }
 
 -- what is cut anyway may be cut before
@@ -90,23 +67,21 @@ cut_once (suc n) [] y = refl
 cut_once (suc n) (c ∷ x) y = ap (λ (l : List ℕ). c ∷ l) (cut_once n x y)
 
 -- one more read
-pub reading_more : {from : End} {bytes chunk line chunk' line' : List ℕ} {p p' : Part} {e : End} {turns turns' : ℕ} {r : Got}
-    → Reading from bytes chunk line p e turns
-    → 0 < turns
+pub reading_more : {from : End} {bytes chunk line chunk' line' : List ℕ} {p p' : Part} {e : End} {n : ℕ} {r : Got}
+    → Reading from bytes chunk line p e n
+    → p.ended ≡ false
+    → is_open_at e ≡ true
     → Brought chunk' r
     → length line' ≡ length line
     → Took (slice 0 r.count chunk') p.held line chunk' line' p'
-    → turns' ≡ left_by p'.ended r.end (turns - 1)
-    → Reading from bytes chunk' line' p' r.end turns'
-reading_more {from} {bytes} {line = line} {chunk' = chunk'} {line' = line'} {p = p} {e = e} {turns = turns} {r = r} g h b z t l =
+    → Reading from bytes chunk' line' p' r.end (n + 1)
+reading_more {from} {bytes} {line = line} {chunk' = chunk'} {line' = line'} {p = p} {e = e} {n = n} {r = r} g f o b z t =
     let a = bytes ++ g.came in
     let b' = slice 0 r.count chunk' in
-    let o = goes_on p.ended e g.left h in
-    let j = joined a b' (sym g.took.ended ∙ o.line) in
+    let j = joined a b' (sym g.took.ended ∙ f) in
     record {
-      count = suc g.count;
       came = g.came ++ b';
-      reads = more_reads (rw o.input at g.reads) b;
+      reads = rw add-one (more_reads (rw (open_only e o) at g.reads) b);
       took = rw (← append_assoc) (record {
         text = t.text ∙ (rw (g.took.text, z, cut_once (length line) (before_lf a) (before_lf b'), j.before));
         rest = t.rest ∙ sym j.after;
@@ -115,13 +90,11 @@ reading_more {from} {bytes} {line = line} {chunk' = chunk'} {line' = line'} {p =
         order = t.order;
         inside = t.inside;
       });
-      most = omega (arith, o.all);
-      left = let m : turns - 1 ≡ MOST_READS - suc g.count = omega (arith, o.all) in rw (← m) l;
     }
 
-pub handed : {from : Source} {chunk₀ chunk line : List ℕ} {p : Part} {e end : End} {turns lines : ℕ} {some : Bool}
-    → Reading from.end (unread from chunk₀) chunk line p e turns
-    → turns ≤ 0
+pub handed : {from : Source} {chunk₀ chunk line : List ℕ} {p : Part} {e end : End} {n lines : ℕ} {some : Bool}
+    → Reading from.end (unread from chunk₀) chunk line p e n
+    → (p.ended ≡ false → e ≡ Open → n ≡ MOST_READS)
     → some ≡ is_line p.ended e p.held
     → lines ≡ counted from.lines some
     → end ≡ stands p.ended e
@@ -131,16 +104,16 @@ pub handed : {from : Source} {chunk₀ chunk line : List ℕ} {p : Part} {e end 
       held = p.held;
       some = some;
     })
-handed {p = p} {e = e} g z s n o =
+handed {p = p} {e = e} {n = k} g z s n o =
     record {
-      count = g.count;
+      count = k;
       came = g.came;
       last = e;
       reads = g.reads;
       text = g.took.text;
       rest = g.took.rest;
       end = rw (← g.took.ended) o;
-      turns = λ f o. (let l = rw (g.took.ended ∙ f, o) at g.left in omega (arith, l, g.most));
+      turns = λ f o. z (g.took.ended ∙ f) o;
       some = rw (← g.took.ended) s;
       number = n;
       fits = g.took.fits;

@@ -33,16 +33,16 @@ uncut : (line : List ℕ) (n : ℕ) → n ≤ length line → take (length line)
 uncut line n h = rw append-nil (take_all (length line) (take n line) (rw (length-take-le n line h) h))
 
 module _ {bytes line₀ chunk line : List ℕ} {held filled i n : ℕ} (p : Taking bytes held line₀ chunk filled line i n) where
-  pub taken_all : filled ≤ i → Took bytes held line₀ chunk line (record { at = i; filled = filled; held = n; ended = false })
+  pub taken_all : filled ≤ i → Took bytes held line₀ chunk line (record { at = filled; filled = filled; held = n; ended = false })
   unfolding before_lf after_lf has_lf
   taken_all h =
       let e : slice i filled chunk ≡ [] = (let s : i ≡ filled = omega (arith, p.order) in rw s (slice_empty filled chunk)) in
       record {
         text = sym (uncut line n p.fits) ∙ (rw e at p.text);
-        rest = e ∙ (rw e at p.rest);
+        rest = slice_empty filled chunk ∙ (rw e at p.rest);
         ended = rw e at p.ended;
         fits = p.fits;
-        order = p.order;
+        order = omega arith;
         inside = p.inside;
       }
 

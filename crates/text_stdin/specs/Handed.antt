@@ -8,7 +8,7 @@ use Rattle.text_stdin.specs.declared.Part.{Part}
 use Rattle.text_stdin.specs.declared.Line.{Line}
 use Rattle.text_stdin.specs.declared.reads.End.{End}
 use Rattle.text_stdin.specs.declared.reads.End.TheVariants.{Open, Ended, Failed, OutOfTurns}
-use Rattle.text_stdin.specs.Reads.{is_open_at, is_ended_at, Reads}
+use Rattle.text_stdin.specs.Reads.{is_ended_at, Reads}
 
 -- the bytes up to the first LF, or all
 unfoldable pub before_lf : List ℕ → List ℕ
@@ -48,10 +48,6 @@ pub record Took (bytes : List ℕ) (held : ℕ) (line₀ chunk line : List ℕ) 
 -- so many reads may be made for a line
 abbrev pub MOST_READS : ℕ
 MOST_READS = 2 ^ 64 - 1
-
--- as many reads may follow, or none: behind an LF, and where the input is not open
-abbrev pub left_by : Bool → End → ℕ → ℕ
-left_by ended e n = if ended then 0 else (if is_open_at e then n else 0)
 
 -- how the input stands behind a line, found or not: it is open where none was found only after all reads
 abbrev pub stands : Bool → End → End

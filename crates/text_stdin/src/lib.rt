@@ -6,10 +6,10 @@ pub mod report; // what is said where reading or writing failed
 
 ghost use Rattle.std.specs.Prelude.{◌≡◌, ◌≤◌, length};
 ghost use Rattle.std.proofs.Math.Seq.{slice};
-ghost use Rattle.text_stdin.specs.Handed.{Within, counted, Took, HandedOut, left_by, stands, is_line};
+ghost use Rattle.text_stdin.specs.Handed.{Within, counted, Took, HandedOut, stands, is_line};
 ghost use Rattle.text_stdin.specs.declared.reads.End.TheVariants.{Open};
 
-use reads::{End, is_open, read_some};
+use reads::{End, is_ended, is_open, read_some};
 
 // What was read and not handed out yet stands in the chunk from `at` up to
 // `filled`. So many lines were handed out, and how the input stands.
@@ -64,58 +64,38 @@ fn take(chunk: &[u8], at: usize, filled: usize, held: usize, line: &mut [u8]) ->
         (slice at filled chunk.now)
         held line.old chunk.now line.new result }
 {
-    let mut i = at;
     let mut n = held;
-    while i < filled {
+    for i in at..filled {
         let c = chunk[i];
-        i += 1;
         if c == b'\n' {
             return Part {
-                at: i,
-                filled: filled,
+                at: i + 1,
+                filled,
                 held: n,
                 ended: true,
             };
         }
-        if n < line.len() {
-            line[n] = c;
-            n += 1;
+        if line.len() <= n {
+            continue;
         }
+        line[n] = c;
+        n += 1;
     }
     Part {
-        at: i,
-        filled: filled,
+        at: filled,
+        filled,
         held: n,
         ended: false,
     }
-}
-
-// How many reads may follow, of as many as are left: none where the line has ended, or the input is not
-// open. A proved loop ends, so it counts them down from a number that no run uses up.
-fn reads_left(turns: u64, ended: bool, end: End) -> u64
-    ensures { result ≡ left_by ended end turns }
-{
-    if ended {
-        return 0;
-    }
-    if is_open(end) {
-        return turns;
-    }
-    0
 }
 
 // How the input stands behind a line, or where there is none.
 fn end_after(ended: bool, end: End) -> End
     ensures { result ≡ stands ended end }
 {
-    if ended {
-        return end;
-    }
     match end {
-        End::Open => End::OutOfTurns,
-        End::Ended => End::Ended,
-        End::Failed => End::Failed,
-        End::OutOfTurns => End::OutOfTurns,
+        End::Open if !ended => End::OutOfTurns,
+        _ => end,
     }
 }
 
@@ -123,27 +103,18 @@ fn end_after(ended: bool, end: End) -> End
 fn is_some(ended: bool, end: End, held: usize) -> bool
     ensures { result ≡ is_line ended end held }
 {
-    if ended {
-        return true;
-    }
-    match end {
-        End::Open => false,
-        End::Ended => held > 0,
-        End::Failed => false,
-        End::OutOfTurns => false,
-    }
+    ended || is_ended(end) && held > 0
 }
 
 // The number of lines with this one.
 fn count_on(lines: u64, some: bool) -> u64
     ensures { result ≡ counted lines some }
 {
-    if some {
-        if lines < u64::MAX {
-            return lines + 1;
-        }
+    if some && lines < u64::MAX {
+        lines + 1
+    } else {
+        lines
     }
-    lines
 }
 
 // The next line, without its LF. A last line may lack it; behind an LF that is the last byte there is
@@ -154,13 +125,14 @@ pub fn next_line(rt: HostRuntime, from: Source, chunk: &mut [u8], line: &mut [u8
 {
     let mut part = take(chunk, from.at, from.filled, 0, line);
     let mut end = from.end;
-    let mut turns = reads_left(u64::MAX, part.ended, end);
-    while turns > 0 {
+    // A proved loop ends, so it counts the reads up to a number that no run reaches.
+    for _ in 0..u64::MAX {
+        if part.ended || !is_open(end) {
+            break;
+        }
         let got = read_some(rt, chunk);
-        let count = got.count;
         end = got.end;
-        part = take(chunk, 0, count, part.held, line);
-        turns = reads_left(turns - 1, part.ended, end);
+        part = take(chunk, 0, got.count, part.held, line);
     }
     let some = is_some(part.ended, end, part.held);
     let source = Source {
@@ -172,6 +144,6 @@ pub fn next_line(rt: HostRuntime, from: Source, chunk: &mut [u8], line: &mut [u8
     Line {
         source,
         held: part.held,
-        some: some,
+        some,
     }
 }

@@ -7,7 +7,7 @@ use std::io::Read;
 
 // How the input stands: bytes may follow; it has ended, a read having answered 0; a read has
 // failed; or as many reads as are counted have brought bytes, and the end was not reached.
-#[derive(Clone, Copy)]
+#[derive(Clone, Copy, PartialEq, Eq)]
 pub enum End {
     Open,
     Ended,
@@ -26,24 +26,14 @@ pub struct Got {
 pub fn is_open(end: End) -> bool
     ensures { result ≡ is_open_at end }
 {
-    match end {
-        End::Open => true,
-        End::Ended => false,
-        End::Failed => false,
-        End::OutOfTurns => false,
-    }
+    matches!(end, End::Open)
 }
 
 // Whether the input has ended.
 pub fn is_ended(end: End) -> bool
     ensures { result ≡ is_ended_at end }
 {
-    match end {
-        End::Open => false,
-        End::Ended => true,
-        End::Failed => false,
-        End::OutOfTurns => false,
-    }
+    matches!(end, End::Ended)
 }
 
 // How many bytes of the chunk an answer gives: none where
@@ -52,9 +42,10 @@ fn count(answer: isize, chunk: &[u8]) -> usize
     ensures { result ≡ bytes_by answer (length chunk.now) }
 {
     if answer > 0 {
-        return (answer as usize).min(chunk.len());
+        (answer as usize).min(chunk.len())
+    } else {
+        0
     }
-    0
 }
 
 // What a read's answer says. Into a chunk with no room

@@ -12,10 +12,9 @@ fn say(rt: HostRuntime, name: &[u8], text: &[u8]) {
 // Nothing where the input has ended. A program that leaves it open has counted all its turns.
 pub fn unread(rt: HostRuntime, name: &[u8], end: End) {
     match end {
-        End::Open => say(rt, name, b": standard input was not read to its end\n"),
+        End::Open | End::OutOfTurns => say(rt, name, b": standard input was not read to its end\n"),
         End::Ended => {}
         End::Failed => say(rt, name, b": standard input could not be read\n"),
-        End::OutOfTurns => say(rt, name, b": standard input was not read to its end\n"),
     }
 }
 

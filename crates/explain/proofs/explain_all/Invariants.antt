@@ -1,12 +1,9 @@
 -- `explain_all`: safety and termination, and what `explain_line` requires. The invariant is `Within`, the part of the chunk
--- that is still to be read being inside it, and that the used part of the log is inside it. `turns` decreases, by 1 or to 0.
+-- that is still to be read being inside it, and that the used part of the log is inside it.
 use Rattle.std.proofs.Common.{◌≤◌}
 use Rattle.answer_lines.specs.Lines.{LOG_WORDS}
 use Rattle.text_stdin.specs.Handed.{Within}
 use Rattle.explain.proofs.explain_all.Given as goal
 
-abbrev pub invariant-loop-turns : goal.invariant-loop-turns
-invariant-loop-turns l = Within l.source l.chunk × (l.call.used ≤ LOG_WORDS)
-
-abbrev pub decreases-loop-turns : goal.decreases-loop-turns
-decreases-loop-turns l = l.turns
+abbrev pub invariant-loop : goal.invariant-loop
+invariant-loop l = Within l.source l.chunk × (l.call.used ≤ LOG_WORDS)
