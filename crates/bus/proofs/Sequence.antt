@@ -81,7 +81,7 @@ sets_words (x ∷ xs) ys l at =
     let e : at + suc (length xs) ≡ suc at + length xs = omega arith in
     rw e (sets_words xs ys (set l at (sign_word x)) (suc at))
 
-pub opening_short : (o : Option Condition) (address : ℕ) (d : Direction) → length (opening o address d) ≤ 2
+opening_short : (o : Option Condition) (address : ℕ) (d : Direction) → length (opening o address d) ≤ 2
 opening_short None address d = omega arith
 opening_short (Some Start) address d = omega arith
 opening_short (Some Restart) address d = omega arith
@@ -111,9 +111,6 @@ pub record Putting (log out₀ : List ℕ) (address : ℕ) (out : List ℕ) (bus
       ≡ sets out₀ 0 (sign_words (signs Idle address (later DATA_CMD log 0)))
   pub count : at + length (signs bus address (later DATA_CMD log k)) ≡ length (signs Idle address (later DATA_CMD log 0))
   pub few : at ≤ k * 4
-
-pub begun : (log out : List ℕ) (address : ℕ) {bus : Bus} → bus ≡ Idle → Putting log out address out bus 0 0
-begun log out address e = record { same = rw e; count = rw e (omega arith); few = omega arith }
 
 module _ {log out₀ : List ℕ} {address : ℕ} {out : List ℕ} {bus : Bus} {at k : ℕ} (i : Putting log out₀ address out bus at k) where
   -- over an entry that writes no word
