@@ -51,6 +51,9 @@ fn call_by_value(
     Left { state: s, ran }
 }
 
+// The five calls in the Rust's names stay beside `call_by_value`: one function over `Request` is
+// no plainer, since each promises the program of its own call, without the requests' definition.
+
 // `reset`: the address, and whether general calls are heard.
 pub fn reset(
     state: SlaveState,
@@ -63,9 +66,8 @@ pub fn reset(
         (expected (reset_call address general_call) log.old readings.now [] state)
         log.old log.new result.ran result.state }
 {
-    let mut none = [0u8; 0];
     let request = Request::Reset(address, general_call);
-    call_by_value(state, request, b"", &mut none, readings, log)
+    call_by_value(state, request, b"", &mut [], readings, log)
 }
 
 // `listen`, into the buffer.
@@ -85,15 +87,7 @@ pub fn respond_to_read(state: SlaveState, bytes: &[u8], readings: &[u32], log: &
         state)
         log.old log.new result.ran result.state }
 {
-    let mut none = [0u8; 0];
-    call_by_value(
-        state,
-        Request::RespondToRead,
-        bytes,
-        &mut none,
-        readings,
-        log,
-    )
+    call_by_value(state, Request::RespondToRead, bytes, &mut [], readings, log)
 }
 
 // `respond_till_stop`, with the fill byte.
@@ -102,9 +96,8 @@ pub fn respond_till_stop(state: SlaveState, fill: u8, readings: &[u32], log: &mu
         (expected (respond_till_stop_call fill) log.old readings.now [] state)
         log.old log.new result.ran result.state }
 {
-    let mut none = [0u8; 0];
     let request = Request::RespondTillStop(fill);
-    call_by_value(state, request, b"", &mut none, readings, log)
+    call_by_value(state, request, b"", &mut [], readings, log)
 }
 
 // `respond_and_fill`, with the bytes and then the fill byte.
@@ -120,7 +113,6 @@ pub fn respond_and_fill(
         [] state)
         log.old log.new result.ran result.state }
 {
-    let mut none = [0u8; 0];
     let request = Request::RespondAndFill(fill);
-    call_by_value(state, request, bytes, &mut none, readings, log)
+    call_by_value(state, request, bytes, &mut [], readings, log)
 }

@@ -2,12 +2,14 @@
 use Prim.Native.Nat.{ℕ, ◌<◌, ◌≤◌}
 use mathlib.Core.List.{List}
 use mathlib.Core.Path.{◌≡◌, sym, ap, ◌∙◌}
-use Rattle.std.specs.Prelude.{None}
+use Rattle.std.specs.Prelude.{true, None, refl}
+use Rattle.regs.proofs.Tests.{false_true}
 use Rattle.slave_listen.specs.declared.ListenPoint.TheVariants.{Status, RawIntrStat}
-use Rattle.slave_respond.specs.Inner.Machine.{response, count_of}
+use Rattle.slave_respond.specs.Inner.Machine.{response, count_of, sends_bytes}
 use Rattle.slave_respond.specs.declared.Job.{Job}
+use Rattle.slave_respond.specs.declared.Job.TheVariants.{Respond, RespondThenFill, Fill, FillAfter}
 use Rattle.slave_respond.specs.declared.RespondPoint.{RespondPoint}
-use Rattle.slave_respond.specs.declared.RespondPoint.TheVariants as Respond
+use Rattle.slave_respond.specs.declared.RespondPoint.TheVariants as P
 use Rattle.slave_respond.specs.declared.Response.{Response}
 use Rattle.slave_steps.specs.Inner.Machine.{slave}
 use Rattle.slave_steps.specs.declared.Slave.{Slave}
@@ -18,6 +20,13 @@ use Rattle.slave_fast_polls.specs.Inner.Idles.{Idles, Awaits}
 use Rattle.slave_fast.specs.Inner.GoesAhead.{GoesAhead, SendsBytes}
 use Rattle.slave_fast_bytes.specs.declared.listen.Message.{Message}
 use Rattle.regs.specs.declared.access.Recording.{Recording}
+
+-- a response that sends the lent bytes sends all of them
+pub sends_all : (job : Job) → sends_bytes job ≡ true → SendsBytes job
+sends_all Respond e = record { counts = λ count. refl; sends = λ bytes i. refl }
+sends_all (RespondThenFill fill) e = record { counts = λ count. refl; sends = λ bytes i. refl }
+sends_all (Fill fill) e = absurd (false_true e)
+sends_all (FillAfter fill) e = absurd (false_true e)
 
 at_its_point : (s : Slave) {p : Point} → s.point ≡ p → slave s.state s.length p ≡ s
 at_its_point s e = ap (λ (p : Point). slave s.state s.length p) (sym e)
@@ -56,11 +65,11 @@ module _ {s : Slave} {before after : Recording} where
   }
 
   pub idle_ahead : {job : Job} {i : ℕ}
-      → s.point ≡ Responding (response job (Respond.RawIntrStat i))
+      → s.point ≡ Responding (response job (P.RawIntrStat i))
       → count_of job s.length ≤ i
       → Idles before after
       → (bytes buffer : List ℕ)
-      → GoesAhead bytes s before buffer (Responding (response job (Respond.RawIntrStat i))) after buffer
+      → GoesAhead bytes s before buffer (Responding (response job (P.RawIntrStat i))) after buffer
   idle_ahead {job = job} {i = i} at sent d bytes buffer = record {
     keeps = d.keeps;
     reaches = rw (at_its_point s at)

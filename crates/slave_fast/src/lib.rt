@@ -3,7 +3,7 @@
 
 ghost use Rattle.std.specs.Prelude.{true, List, ◌≡◌, ℕ, ◌≤◌};
 ghost use Rattle.regs.specs.Inner.Recording.{room_of};
-ghost use Rattle.slave_fast.specs.Inner.GoesAhead.{GoesAhead, SendsBytes};
+ghost use Rattle.slave_fast.specs.Inner.GoesAhead.{GoesAhead};
 ghost use Rattle.slave_respond.specs.Inner.Machine.{response};
 ghost use Rattle.slave_fast_bytes.specs.Inner.Bursts.{ForAny};
 
@@ -12,13 +12,6 @@ use slave_fast_bytes::listen::Message;
 use slave_listen::ListenPoint;
 use slave_respond::{Job, RespondPoint, Response};
 use slave_steps::{Point, Slave};
-
-// Whether a response sends the lent bytes, and not fill bytes.
-fn sends_bytes(job: Job) -> bool
-    ensures { result ≡ true → SendsBytes job }
-{
-    matches!(job, Job::Respond | Job::RespondThenFill(_))
-}
 
 // In `listen`, with no byte pending.
 fn listen_from(
@@ -60,11 +53,11 @@ fn respond_from(s: Slave, job: Job, at: u16, bytes: &[u8], recording: &mut Recor
         (λ (buffer : List ℕ). GoesAhead bytes.now s recording.old buffer
         (Point.Responding (response job (RespondPoint.RawIntrStat result))) recording.new buffer) }
 {
-    if at >= slave_respond::count(job, s.length) {
+    if at >= job.count(s.length) {
         slave_fast_polls::respond(recording);
         return at;
     }
-    if sends_bytes(job) {
+    if job.sends_bytes() {
         return slave_fast_bytes::respond::burst(at, s.length, bytes, recording);
     }
     at

@@ -47,34 +47,6 @@ pub struct Listened {
     pub store: Store,
 }
 
-pub fn next(p: ListenPoint) -> Next
-    ensures { result ≡ next_listen p }
-{
-    match p {
-        ListenPoint::RxTl => Next::Write(regs::RX_TL, 0),
-        ListenPoint::RawIntrStat(_) => Next::Read(regs::RAW_INTR_STAT),
-        ListenPoint::Rxflr(_, _) => Next::Read(regs::RXFLR),
-        ListenPoint::Status(_, _) => Next::Read(regs::STATUS),
-        ListenPoint::DataCmd(_, _) => Next::Read(regs::DATA_CMD),
-        ListenPoint::Watermark(_, _) => Next::Write(regs::RX_TL, 11),
-        ListenPoint::WriteRead(_) => Next::Read(regs::CLR_RESTART_DET),
-        ListenPoint::GeneralCall(_) => Next::Read(regs::CLR_GEN_CALL),
-        ListenPoint::GeneralCallStop(_) => Next::Read(regs::CLR_STOP_DET),
-        ListenPoint::Write(_) => Next::Read(regs::CLR_STOP_DET),
-        ListenPoint::Read => Next::Read(regs::CLR_STOP_DET),
-        ListenPoint::ReadRestart => Next::Read(regs::CLR_RESTART_DET),
-        ListenPoint::ReadGeneralCall => Next::Read(regs::CLR_GEN_CALL),
-        ListenPoint::StuckStop(_) => Next::Read(regs::CLR_STOP_DET),
-        ListenPoint::IntrMask(_) => Next::Write(regs::INTR_MASK, MASK),
-        ListenPoint::Mark(_) => Next::Mark(regs::PENDING),
-        ListenPoint::Heard(c) => Next::Finished(Answer::Heard(c)),
-        ListenPoint::PartialWrite(n) => Next::Finished(Answer::Refused(Refusal::PartialWrite(n))),
-        ListenPoint::PartialGeneralCall(n) => Next::Finished(Answer::Refused(
-            Refusal::PartialGeneralCall(n),
-        )),
-    }
-}
-
 fn is_write_read(stat: u32) -> bool
     ensures { result ≡ restart_det stat && rd_req stat }
 {
@@ -93,70 +65,119 @@ fn is_write(stat: u32, len: u16) -> bool
     fields::has_stop_det(stat) & (0 < len)
 }
 
-// What a poll comes to once the FIFO is drained, by the status word that was read before that.
-pub fn settle(stat: u32, len: u16, length: u16) -> ListenPoint
-    ensures { result ≡ settled length stat len }
-{
-    if length == len {
-        if fields::has_gen_call(stat) {
-            return ListenPoint::PartialGeneralCall(length);
+// A poll: the status word that it read first, and the places of the lent buffer.
+#[derive(Clone, Copy)]
+pub struct Poll {
+    pub stat: u32,
+    pub length: u16,
+}
+
+impl Poll {
+    // What a poll comes to once the FIFO is drained, by the status word that was read before that.
+    pub fn settle(self, len: u16) -> ListenPoint
+        ensures { result ≡ settled self.length self.stat len }
+    {
+        if self.length == len {
+            if fields::has_gen_call(self.stat) {
+                return ListenPoint::PartialGeneralCall(self.length);
+            }
+            return ListenPoint::PartialWrite(self.length);
         }
-        return ListenPoint::PartialWrite(length);
-    }
-    if is_write_read(stat) {
-        return ListenPoint::WriteRead(len);
-    }
-    if is_general_call(stat, len) {
-        return ListenPoint::GeneralCall(len);
-    }
-    if is_write(stat, len) {
-        return ListenPoint::Write(len);
-    }
-    if fields::has_rd_req(stat) {
-        return ListenPoint::Read;
-    }
-    if fields::has_stop_det(stat) {
-        return ListenPoint::StuckStop(len);
-    }
-    ListenPoint::IntrMask(len)
-}
-
-// A step with which nothing is stored and the pending byte stays.
-pub fn stay(pending: Option<u8>, point: ListenPoint) -> Listened
-    ensures { result ≡ stays pending point }
-{
-    Listened {
-        point,
-        pending,
-        store: None,
+        if is_write_read(self.stat) {
+            return ListenPoint::WriteRead(len);
+        }
+        if is_general_call(self.stat, len) {
+            return ListenPoint::GeneralCall(len);
+        }
+        if is_write(self.stat, len) {
+            return ListenPoint::Write(len);
+        }
+        if fields::has_rd_req(self.stat) {
+            return ListenPoint::Read;
+        }
+        if fields::has_stop_det(self.stat) {
+            return ListenPoint::StuckStop(len);
+        }
+        ListenPoint::IntrMask(len)
     }
 }
 
-pub fn advance(p: ListenPoint, pending: Option<u8>, v: u32, length: u16) -> Listened
-    ensures { result ≡ advance_listen length p pending v }
-{
-    match p {
-        ListenPoint::RxTl => stay(pending, ListenPoint::RawIntrStat(0)),
-        ListenPoint::RawIntrStat(len) => stay(pending, ListenPoint::Rxflr(v, len)),
-        ListenPoint::Rxflr(stat, len) => drain::after_level(stat, len, pending, v, length),
-        ListenPoint::Status(stat, offset) => stay(pending, drain::after_status(stat, offset, v)),
-        ListenPoint::DataCmd(stat, offset) => drain::after_data(stat, offset, pending, v, length),
-        ListenPoint::Watermark(stat, len) => stay(pending, settle(stat, len, length)),
-        ListenPoint::WriteRead(len) => stay(pending, ListenPoint::Heard(Command::WriteRead(len))),
-        ListenPoint::GeneralCall(len) => stay(pending, ListenPoint::GeneralCallStop(len)),
-        ListenPoint::GeneralCallStop(len) => stay(
+impl Listened {
+    // A step with which nothing is stored and the pending byte stays.
+    pub fn stay(pending: Option<u8>, point: ListenPoint) -> Listened
+        ensures { result ≡ stays pending point }
+    {
+        Listened {
+            point,
             pending,
-            ListenPoint::Heard(Command::GeneralCall(len)),
-        ),
-        ListenPoint::Write(len) => stay(pending, ListenPoint::Heard(Command::Write(len))),
-        ListenPoint::Read => stay(pending, ListenPoint::ReadRestart),
-        ListenPoint::ReadRestart => stay(pending, ListenPoint::ReadGeneralCall),
-        ListenPoint::ReadGeneralCall => stay(pending, ListenPoint::Heard(Command::Read)),
-        ListenPoint::StuckStop(len) => stay(pending, ListenPoint::IntrMask(len)),
-        ListenPoint::IntrMask(len) => stay(pending, ListenPoint::Mark(len)),
-        ListenPoint::Mark(len) => stay(pending, ListenPoint::RawIntrStat(len)),
-        ListenPoint::Heard(c) => stay(pending, ListenPoint::Heard(c)),
-        ListenPoint::PartialWrite(n) => stay(pending, ListenPoint::PartialWrite(n)),
-        ListenPoint::PartialGeneralCall(n) => stay(pending, ListenPoint::PartialGeneralCall(n)),
+            store: None,
+        }
+    }
+}
+
+impl ListenPoint {
+    // The access that is next, or the answer.
+    pub fn next(self) -> Next
+        ensures { result ≡ next_listen self }
+    {
+        match self {
+            ListenPoint::RxTl => Next::Write(regs::RX_TL, 0),
+            ListenPoint::RawIntrStat(_) => Next::Read(regs::RAW_INTR_STAT),
+            ListenPoint::Rxflr(_, _) => Next::Read(regs::RXFLR),
+            ListenPoint::Status(_, _) => Next::Read(regs::STATUS),
+            ListenPoint::DataCmd(_, _) => Next::Read(regs::DATA_CMD),
+            ListenPoint::Watermark(_, _) => Next::Write(regs::RX_TL, 11),
+            ListenPoint::WriteRead(_) | ListenPoint::ReadRestart => Next::Read(
+                regs::CLR_RESTART_DET,
+            ),
+            ListenPoint::GeneralCall(_) | ListenPoint::ReadGeneralCall => Next::Read(
+                regs::CLR_GEN_CALL,
+            ),
+            ListenPoint::GeneralCallStop(_)
+            | ListenPoint::Write(_)
+            | ListenPoint::Read
+            | ListenPoint::StuckStop(_) => Next::Read(regs::CLR_STOP_DET),
+            ListenPoint::IntrMask(_) => Next::Write(regs::INTR_MASK, MASK),
+            ListenPoint::Mark(_) => Next::Mark(regs::PENDING),
+            ListenPoint::Heard(command) => Next::Finished(Answer::Heard(command)),
+            ListenPoint::PartialWrite(n) => Next::Finished(Answer::Refused(Refusal::PartialWrite(
+                n,
+            ))),
+            ListenPoint::PartialGeneralCall(n) => Next::Finished(Answer::Refused(
+                Refusal::PartialGeneralCall(n),
+            )),
+        }
+    }
+
+    // What the Rust does from an access, which read v, up to the next one.
+    pub fn advance(self, pending: Option<u8>, v: u32, length: u16) -> Listened
+        ensures { result ≡ advance_listen length self pending v }
+    {
+        let point = match self {
+            ListenPoint::Rxflr(stat, len) => {
+                return Poll { stat, length }.after_level(len, pending, v);
+            }
+            ListenPoint::DataCmd(stat, offset) => {
+                return Poll { stat, length }.after_data(offset, pending, v);
+            }
+            ListenPoint::RxTl => ListenPoint::RawIntrStat(0),
+            ListenPoint::RawIntrStat(len) => ListenPoint::Rxflr(v, len),
+            ListenPoint::Status(stat, offset) => drain::after_status(stat, offset, v),
+            ListenPoint::Watermark(stat, len) => Poll { stat, length }.settle(len),
+            ListenPoint::WriteRead(len) => ListenPoint::Heard(Command::WriteRead(len)),
+            ListenPoint::GeneralCall(len) => ListenPoint::GeneralCallStop(len),
+            ListenPoint::GeneralCallStop(len) => ListenPoint::Heard(Command::GeneralCall(len)),
+            ListenPoint::Write(len) => ListenPoint::Heard(Command::Write(len)),
+            ListenPoint::Read => ListenPoint::ReadRestart,
+            ListenPoint::ReadRestart => ListenPoint::ReadGeneralCall,
+            ListenPoint::ReadGeneralCall => ListenPoint::Heard(Command::Read),
+            ListenPoint::StuckStop(len) => ListenPoint::IntrMask(len),
+            ListenPoint::IntrMask(len) => ListenPoint::Mark(len),
+            ListenPoint::Mark(len) => ListenPoint::RawIntrStat(len),
+            ListenPoint::Heard(_)
+            | ListenPoint::PartialWrite(_)
+            | ListenPoint::PartialGeneralCall(_) => self,
+        };
+        Listened::stay(pending, point)
     }
 }

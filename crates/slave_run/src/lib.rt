@@ -43,10 +43,10 @@ pub fn run(from: Slave, bytes: &[u8], readings: &[u32], log: &mut [u32], buffer:
     let mut p = from;
     loop {
         let point = slave_fast::burst_from(p, bytes, &mut recording, buffer);
-        p = slave_steps::at_point(p, point);
-        match recording.perform(slave_steps::next_access(p, bytes)) {
+        p = p.at_point(point);
+        match recording.perform(p.next_access(bytes)) {
             Ok(v) => {
-                let moved = slave_steps::advance(p, v);
+                let moved = p.advance(v);
                 regs::access::keep(buffer, moved.store);
                 p = moved.slave;
             }
@@ -65,11 +65,11 @@ fn start(state: SlaveState, request: Request, bytes: usize, buffer: usize) -> Sl
     ensures { result ≡ started state request bytes buffer }
 {
     match request {
-        Request::Reset(address, general) => slave_steps::start_reset(state, address, general),
-        Request::Listen => slave_steps::start_listen(state, buffer),
-        Request::RespondToRead => slave_steps::start_respond_to_read(state, bytes),
-        Request::RespondTillStop(fill) => slave_steps::start_respond_till_stop(state, fill),
-        Request::RespondAndFill(fill) => slave_steps::start_respond_and_fill(state, bytes, fill),
+        Request::Reset(address, general) => Slave::start_reset(state, address, general),
+        Request::Listen => Slave::start_listen(state, buffer),
+        Request::RespondToRead => Slave::start_respond_to_read(state, bytes),
+        Request::RespondTillStop(fill) => Slave::start_respond_till_stop(state, fill),
+        Request::RespondAndFill(fill) => Slave::start_respond_and_fill(state, bytes, fill),
     }
 }
 

@@ -1,5 +1,5 @@
 -- The machine of a response: at each point the access that is next, and where it leads. Only contracts of inner functions cite this.
-use Rattle.std.specs.Prelude.{ℕ, ◌+◌, ◌-◌, List, ◌&&◌, eqb, ltb, get_or, if◌then◌else◌, None}
+use Rattle.std.specs.Prelude.{ℕ, ◌+◌, ◌-◌, List, Bool, true, false, ◌&&◌, eqb, ltb, get_or, if◌then◌else◌, None}
 use Rattle.regs.specs.Program.{PENDING}
 use Rattle.regs.specs.Registers.{DATA_CMD, INTR_MASK, RAW_INTR_STAT, CLR_INTR, CLR_RD_REQ, CLR_TX_ABRT, CLR_RX_DONE, TX_ABRT_SOURCE}
 use Rattle.regs.specs.Fields.{tx_empty, rd_req, tx_abrt, rx_done}
@@ -20,6 +20,13 @@ use Rattle.slave_respond.specs.declared.Job.TheVariants.{Respond, RespondThenFil
 use Rattle.slave_respond.specs.declared.RespondPoint.{RespondPoint}
 use Rattle.slave_respond.specs.declared.RespondPoint.TheVariants as P
 use Rattle.slave_respond.specs.declared.Response.{Response}
+
+-- whether the lent bytes are sent, and not fill bytes
+abbrev pub sends_bytes : Job → Bool
+sends_bytes Respond = true
+sends_bytes (RespondThenFill f) = true
+sends_bytes (Fill f) = false
+sends_bytes (FillAfter f) = false
 
 abbrev pub count_of : Job → ℕ → ℕ
 count_of Respond length = length
