@@ -135,7 +135,7 @@ module _ (coded : Bool) (kinds lengths : List ℕ) (t : Transfer) where
       by_test (ltb t.begun (length kinds)) (λ q. rw q (opened_address (t.begun + 1) (get_or kinds t.begun 0) _ _)) (λ q. rw q)
 
   pub same_address : (v : ℕ) → (advance_of coded kinds lengths t v).address ≡ t.address
-  same_address v = moved_address (step_of t.len t.send_stop t.point v)
+  same_address v = moved_address (step_of t.operation.len t.operation.send_stop t.point v)
 
 pub first_address : (form address : ℕ) (kinds lengths : List ℕ) (written room : ℕ)
     → (first_of form address kinds lengths written room).address ≡ address

@@ -64,19 +64,7 @@ fn told_access(n: Next) -> Access
 fn refuse(t: Transfer) -> Transfer
     ensures { result ≡ over_limits t }
 {
-    let mode = t.mode;
-    Transfer {
-        point: Point::Finished(Answer::Refused(Refusal::OverLimits)),
-        mode,
-        restart: t.restart,
-        send_stop: t.send_stop,
-        address: t.address,
-        len: t.len,
-        at: t.at,
-        begun: t.begun,
-        reads: t.reads,
-        writes: t.writes,
-    }
+    t.at_point(Point::Finished(Answer::Refused(Refusal::OverLimits)))
 }
 
 fn is_one(kinds: &[u8], kind: u8) -> bool

@@ -88,13 +88,13 @@ module _ (coded : Bool) (kinds lengths bytes : List ℕ) where
       → ((m' : ℕ)
       → m' < m
       → (p : Point)
-      → Agrees m' (moved_to coded kinds lengths (with_point t p) (returned t.len t.send_stop caller (Ok tt))) b
+      → Agrees m' (moved_to coded kinds lengths (with_point t p) (returned t.operation.len t.operation.send_stop caller (Ok tt))) b
       (k (ok tt)))
       → ((m' : ℕ)
       → m' < m
       → (p : Point) (r : AbortReason)
       → Agrees m'
-      (moved_to coded kinds lengths (with_point t p) (returned t.len t.send_stop caller (Err r))) b
+      (moved_to coded kinds lengths (with_point t p) (returned t.operation.len t.operation.send_stop caller (Err r))) b
       (k (err r)))
       → Agrees m (with_point t (Abort A.Source caller)) b ((read_and_clear_abort_reason reason_of) n k)
   unfolding read_and_clear_abort_reason next_at next_abort step_of step_abort store_at
@@ -165,8 +165,8 @@ module _ (coded : Bool) (kinds lengths bytes : List ℕ) where
       wanted false m h l p b = good m h p b
 
       pub stops_agree : (had : T.Tried) (m : ℕ) → m ≤ top → m ≤ n → (p : Point) (b : List ℕ)
-          → Agrees m (moved_to coded kinds lengths (with_point t p) (wait_stop t.send_stop had)) b
-          (wait_stop_det reason_of (as_tried had) t.send_stop n k)
+          → Agrees m (moved_to coded kinds lengths (with_point t p) (wait_stop t.operation.send_stop had)) b
+          (wait_stop_det reason_of (as_tried had) t.operation.send_stop n k)
       unfolding wait_stop wait_stop_det
-      stops_agree (Ok tt) m h l p b = wanted t.send_stop m h l p b
+      stops_agree (Ok tt) m h l p b = wanted t.operation.send_stop m h l p b
       stops_agree (Err r) m h l p b = polling (Err r) m h l b

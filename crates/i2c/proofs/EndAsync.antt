@@ -15,7 +15,7 @@ use Rattle.i2c.proofs.Basics.{Agrees, as_tried, fails, stops_agree}
 
 -- what follows the loop of a transfer, over what follows the operation
 abbrev pub ending : Transfer → (Unit {0} → Behaviour (Unit {0}) Answer) → ℕ → Tried (Unit {0}) → Behaviour (Unit {0}) Answer
-ending t k n r = wait_stop_det reason_of r t.send_stop n (λ r. try r n k)
+ending t k n r = wait_stop_det reason_of r t.operation.send_stop n (λ r. try r n k)
 
 module _ (coded : Bool) (kinds lengths bytes : List ℕ) where
   -- the next operation, or the transfer's end, does what k does
@@ -28,7 +28,7 @@ module _ (coded : Bool) (kinds lengths bytes : List ℕ) where
       → m ≤ top
       → m ≤ n
       → (p : Point) (b : List ℕ)
-      → Agrees coded kinds lengths bytes m (moved_to coded kinds lengths (with_point t p) (wait_stop t.send_stop had)) b
+      → Agrees coded kinds lengths bytes m (moved_to coded kinds lengths (with_point t p) (wait_stop t.operation.send_stop had)) b
       (ending t k n (as_tried had))
   ending_agrees t k top n good =
       stops_agree coded kinds lengths bytes t (λ r. try r n k) top n good (λ m h b r. fails coded kinds lengths bytes t m b r)

@@ -62,7 +62,7 @@ pub record Left (kinds lengths bytes : List ℕ) (restart : Bool) (t : Transfer)
   pub reads_fit : t.reads + total READ ks ls ≤ 4096
   pub writes_fit : t.writes + total WRITE ks ls ≡ length bytes
   pub bytes_fit : length bytes ≤ 4096
-  pub same_restart : t.restart ≡ restart
+  pub same_restart : t.operation.restart ≡ restart
 
 -- a kind that is known and no write is a read
 pub is_read : (kind : ℕ) → (eqb kind READ || eqb kind WRITE) ≡ true → eqb kind WRITE ≡ false → eqb kind READ ≡ true

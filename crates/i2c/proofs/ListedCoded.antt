@@ -64,20 +64,20 @@ module _ (kinds lengths bytes : List ℕ) where
   -- a write that may be empty
   module _ (t : Transfer) (k : Unit {0} → Behaviour (Unit {0}) Answer) (top n m : ℕ) (h : m ≤ top) (l : m ≤ n)
       (good : Good true kinds lengths bytes t k top) (b : List ℕ) where
-    empty_write : (mode : Mode) → eqb t.len 0 ≡ true
-        → Agrees true kinds lengths bytes m (with_point t (write_point true mode t.len)) b
+    empty_write : (mode : Mode) → eqb t.operation.len 0 ≡ true
+        → Agrees true kinds lengths bytes m (with_point t (write_point true mode t.operation.len)) b
         (ends (Refused InvalidWriteBufferLength))
     unfolding write_point next_at
     empty_write Blocking q = rw q (ends_agree (M true kinds lengths bytes) m refl)
     empty_write Async q = rw q (ends_agree (M true kinds lengths bytes) m refl)
 
     coded_write : (mode : Mode) (ws : List ℕ) → Held bytes t ws 0
-        → Agrees true kinds lengths bytes m (with_point t (write_point true mode t.len)) b
+        → Agrees true kinds lengths bytes m (with_point t (write_point true mode t.operation.len)) b
         (when (is_empty ws) (exit (Refused InvalidWriteBufferLength)) n
-        (λ _. write_internal reason_of (mode_of mode) ws t.send_stop n k))
-    coded_write mode [] held = empty_write mode (eq-eqb t.len 0 (omega (arith, held.sum)))
+        (λ _. write_internal reason_of (mode_of mode) ws t.operation.send_stop n k))
+    coded_write mode [] held = empty_write mode (eq-eqb t.operation.len 0 (omega (arith, held.sum)))
     coded_write mode (x ∷ ws) held = write_agrees true kinds lengths bytes t k top n m h l good b mode (x ∷ ws) held
-        (ne_eqb t.len 0 (λ z. omega (arith, held.sum)))
+        (ne_eqb t.operation.len 0 (λ z. omega (arith, held.sum)))
 
   -- the bytes of the last write, and the place of the code behind them
   held_longer : (t : Transfer) (len : ℕ) (last : Bool) → t.writes + len ≡ length bytes
@@ -128,7 +128,7 @@ module _ (kinds lengths bytes : List ℕ) where
     last_read : (t : Transfer) (len m : ℕ) → m ≤ n → (b : List ℕ)
         → t.reads + len ≤ 4096
         → length kinds ≤ t.begun + 1
-        → t.restart ≡ restart
+        → t.operation.restart ≡ restart
         → Agrees true kinds lengths bytes m (opened_read t (t.begun + 1) (longer_length len) true) b
         (From t t.reads (longer 0 (reads len) ∷ []))
     unfolding each_coded opened_read longer_length
@@ -156,7 +156,7 @@ module _ (kinds lengths bytes : List ℕ) where
 
     more_read : (t : Transfer) (len m : ℕ) (os : List (Operation ℕ)) → m ≤ n → (b : List ℕ)
         → t.reads + len ≤ 4096
-        → t.restart ≡ restart
+        → t.operation.restart ≡ restart
         → is_empty os ≡ false
         → ((m₁ : ℕ) → m₁ ≤ n → (p : Point) (b : List ℕ) → Agrees true kinds lengths bytes m₁
         (begun true kinds lengths (with_point (opened_read t (t.begun + 1) len false) p)) b (From t (t.reads + len) (with_code 0 os)))

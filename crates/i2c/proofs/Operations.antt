@@ -31,41 +31,41 @@ module _ (coded : Bool) (kinds lengths bytes : List ℕ) where
   module _ (t : Transfer) (k : Unit {0} → Behaviour (Unit {0}) Answer) (top n m : ℕ) (h : m ≤ top) (l : m ≤ n)
       (good : Good coded kinds lengths bytes t k top) (b : List ℕ) where
     -- a read operation that is empty, or not
-    empty_read : (mode : Mode) → eqb t.len 0 ≡ true
-        → Agrees coded kinds lengths bytes m (with_point t (read_point mode t.len)) b
-        (read_internal reason_of (mode_of mode) t.at t.len t.restart t.send_stop n k)
+    empty_read : (mode : Mode) → eqb t.operation.len 0 ≡ true
+        → Agrees coded kinds lengths bytes m (with_point t (read_point mode t.operation.len)) b
+        (read_internal reason_of (mode_of mode) t.operation.at t.operation.len t.operation.restart t.operation.send_stop n k)
     unfolding read_point read_blocking_internal read_async_internal next_at
     empty_read Blocking q = rw q (ends_agree (M coded kinds lengths bytes) m refl)
     empty_read Async q = rw q (ends_agree (M coded kinds lengths bytes) m refl)
 
-    full_read : (mode : Mode) → t.at + t.len ≤ MOST → eqb t.len 0 ≡ false
-        → Agrees coded kinds lengths bytes m (with_point t (read_point mode t.len)) b
-        (read_internal reason_of (mode_of mode) t.at t.len t.restart t.send_stop n k)
+    full_read : (mode : Mode) → t.operation.at + t.operation.len ≤ MOST → eqb t.operation.len 0 ≡ false
+        → Agrees coded kinds lengths bytes m (with_point t (read_point mode t.operation.len)) b
+        (read_internal reason_of (mode_of mode) t.operation.at t.operation.len t.operation.restart t.operation.send_stop n k)
     unfolding read_point some_read
     full_read Blocking small q = rw q
-        (read_blocking_agrees coded kinds lengths bytes t small k top n good m h l (omega (arith, eqb-false t.len 0 q))
+        (read_blocking_agrees coded kinds lengths bytes t small k top n good m h l (omega (arith, eqb-false t.operation.len 0 q))
         b)
     full_read Async small q = rw q
-        (read_async_agrees coded kinds lengths bytes t k top n m h l (omega (arith, eqb-false t.len 0 q)) small good b)
+        (read_async_agrees coded kinds lengths bytes t k top n m h l (omega (arith, eqb-false t.operation.len 0 q)) small good b)
 
-    pub read_agrees : (mode : Mode) (restart : Bool) → t.restart ≡ restart → t.at + t.len ≤ MOST
-        → Agrees coded kinds lengths bytes m (with_point t (read_point mode t.len)) b
-        (read_internal reason_of (mode_of mode) t.at t.len restart t.send_stop n k)
-    read_agrees mode restart e small = rw (← e) (by_test (eqb t.len 0) (λ q. empty_read mode q) (λ q. full_read mode small q))
+    pub read_agrees : (mode : Mode) (restart : Bool) → t.operation.restart ≡ restart → t.operation.at + t.operation.len ≤ MOST
+        → Agrees coded kinds lengths bytes m (with_point t (read_point mode t.operation.len)) b
+        (read_internal reason_of (mode_of mode) t.operation.at t.operation.len restart t.operation.send_stop n k)
+    read_agrees mode restart e small = rw (← e) (by_test (eqb t.operation.len 0) (λ q. empty_read mode q) (λ q. full_read mode small q))
 
-    empty_write : eqb t.len 0 ≡ true
-        → Agrees coded kinds lengths bytes m (with_point t (write_point coded Blocking t.len)) b
-        (write_blocking_internal reason_of [] t.send_stop n k)
+    empty_write : eqb t.operation.len 0 ≡ true
+        → Agrees coded kinds lengths bytes m (with_point t (write_point coded Blocking t.operation.len)) b
+        (write_blocking_internal reason_of [] t.operation.send_stop n k)
     unfolding write_point write_blocking_internal next_at
     empty_write q = rw q (ends_agree (M coded kinds lengths bytes) m refl)
 
     -- an empty write is refused before this, where a packet error code goes with the transfer
-    pub write_agrees : (mode : Mode) (ws : List ℕ) → Held bytes t ws 0 → (coded && eqb t.len 0) ≡ false
-        → Agrees coded kinds lengths bytes m (with_point t (write_point coded mode t.len)) b
-        (write_internal reason_of (mode_of mode) ws t.send_stop n k)
+    pub write_agrees : (mode : Mode) (ws : List ℕ) → Held bytes t ws 0 → (coded && eqb t.operation.len 0) ≡ false
+        → Agrees coded kinds lengths bytes m (with_point t (write_point coded mode t.operation.len)) b
+        (write_internal reason_of (mode_of mode) ws t.operation.send_stop n k)
     unfolding write_point
-    write_agrees Blocking [] held some = empty_write (eq-eqb t.len 0 (omega (arith, held.sum)))
-    write_agrees Blocking (byte ∷ ws) held some = rw (ne_eqb t.len 0 (λ z. omega (arith, held.sum)))
+    write_agrees Blocking [] held some = empty_write (eq-eqb t.operation.len 0 (omega (arith, held.sum)))
+    write_agrees Blocking (byte ∷ ws) held some = rw (ne_eqb t.operation.len 0 (λ z. omega (arith, held.sum)))
         (write_blocking_agrees coded kinds lengths bytes t k top n good (byte ∷ ws) m h l b held
         (omega (arith, held.sum)))
     write_agrees Async ws held some = rw some (write_async_agrees coded kinds lengths bytes t k top n m h l ws held good b)

@@ -45,24 +45,24 @@ module _ (coded : Bool) (kinds lengths bytes : List ℕ) (t : Transfer) (n : ℕ
 
   -- where a round begins, from any point
   abbrev turn_at : Point → ℕ → ℕ → ℕ → Transfer
-  turn_at p remaining queue batch = moved_to coded kinds lengths (with_point t p) (next_turn t.send_stop (counted remaining queue batch))
+  turn_at p remaining queue batch = moved_to coded kinds lengths (with_point t p) (next_turn t.operation.send_stop (counted remaining queue batch))
 
   -- the bytes that came are stored from `pos` on
   fetches : (left pos remaining queue batch m : ℕ) (k : Unit {0} → Behaviour (Unit {0}) Answer)
-      → pos + left + remaining ≡ t.at + t.len
-      → t.at ≤ pos
-      → t.at + t.len ≤ MOST
+      → pos + left + remaining ≡ t.operation.at + t.operation.len
+      → t.operation.at ≤ pos
+      → t.operation.at + t.operation.len ≤ MOST
       → ((m' : ℕ) → m' ≤ m → (p : Point) (b : List ℕ) → Does m' (turn_at p remaining queue batch) b (k tt))
       → (p : Point) (b : List ℕ)
       → Does m
-      (moved_to coded kinds lengths (with_point t p) (fetching t.send_stop (counted remaining queue batch) left))
+      (moved_to coded kinds lengths (with_point t p) (fetching t.operation.send_stop (counted remaining queue batch) left))
       b (fetch_bytes pos left n k)
   unfolding fetch_bytes fetching next_at next_round store_at store_round step_of step_round
   fetches zero pos remaining queue batch m k e from fits next p b = next m (le_refl m) p b
   fetches (suc left) pos remaining queue batch m k e from fits next p b =
-      let w : t.at + (t.len - remaining - suc left) ≡ pos = omega arith in
-      let s : (t.at + (t.len - remaining - suc left)) % 2 ^ 64 ≡ t.at + (t.len - remaining - suc left) =
-      sum_is t.at (t.len - remaining - suc left) (omega arith) in
+      let w : t.operation.at + (t.operation.len - remaining - suc left) ≡ pos = omega arith in
+      let s : (t.operation.at + (t.operation.len - remaining - suc left)) % 2 ^ 64 ≡ t.operation.at + (t.operation.len - remaining - suc left) =
+      sum_is t.operation.at (t.operation.len - remaining - suc left) (omega arith) in
       let z : suc left - 1 ≡ left = omega arith in
       rw (ne_eqb (suc left) 0 (λ z. omega arith))
       (reads_agree R m refl (λ m₁ l₁ v. stores_agree R m₁
@@ -75,7 +75,7 @@ module _ (coded : Bool) (kinds lengths bytes : List ℕ) (t : Transfer) (n : ℕ
       → ((m' : ℕ) → m' ≤ m → (b : List ℕ) → Does m' (with_point t (ReadAsync (Q.Level (counted remaining (queue - words) batch)))) b (k tt))
       → (p : Point) (b : List ℕ)
       → Does m (moved_to coded kinds lengths (with_point t p) (queued (counted remaining queue batch) words)) b
-      (queue_batch t.len t.restart t.send_stop words queue n k)
+      (queue_batch t.operation.len t.operation.restart t.operation.send_stop words queue n k)
   unfolding queue_batch queued queue_word next_at next_round store_at store_round step_of step_round
   queues zero remaining queue batch m k next p b = rw (sub-zero queue) at (next m (le_refl m) b)
   queues (suc words) remaining queue batch m k next p b =
@@ -87,13 +87,13 @@ module _ (coded : Bool) (kinds lengths bytes : List ℕ) (t : Transfer) (n : ℕ
       (ReadAsync (Q.Queue (counted remaining queue batch) (suc words))) b)))
 
   module _ (k : Unit {0} → Behaviour (Unit {0}) Answer) (top : ℕ) (good : Good coded kinds lengths bytes t k top)
-      (fits : t.at + t.len ≤ MOST) where
+      (fits : t.operation.at + t.operation.len ≤ MOST) where
     -- the rounds after this one
     abbrev Back : ℕ → (Counts → Behaviour (Unit {0}) Answer) → Type 0
     Back m next = (m' : ℕ)
         → m' < m
         → (remaining queue batch : ℕ) (p : Point) (b : List ℕ)
-        → remaining ≤ t.len
+        → remaining ≤ t.operation.len
         → Does m' (turn_at p remaining queue batch) b
         (next (record { remaining = remaining; remaining_queue = queue }))
 
@@ -102,12 +102,12 @@ module _ (coded : Bool) (kinds lengths bytes : List ℕ) (t : Transfer) (n : ℕ
         → m ≤ top
         → m ≤ n
         → (b : List ℕ) (next : Counts → Behaviour (Unit {0}) Answer)
-        → remaining ≤ t.len
+        → remaining ≤ t.operation.len
         → Back m next
         → Does m (with_point t (ReadAsync (Q.Level (counted remaining queue batch)))) b
         (wait_on tt (λ _. batch_poll reason_of batch)
         (put RX_TL (batch - 1) >> modify INTR_MASK (λ w. set_m_tx_abrt (set_m_rx_full w))) n
-        (λ res. take_batch t.at t.len remaining queue res n (λ w. by_turn w next (ending t k n))))
+        (λ res. take_batch t.operation.at t.operation.len remaining queue res n (λ w. by_turn w next (ending t k n))))
     unfolding rx_fifo_len next_at next_round next_wait store_at store_round step_of step_round step_wait returned mask_for poll_point
     waits remaining queue batch m h l b next some back =
         loop_agree R n _ _ (λ x y. with_point t (ReadAsync (Q.Level (counted remaining queue batch))))
@@ -121,7 +121,7 @@ module _ (coded : Bool) (kinds lengths bytes : List ℕ) (t : Transfer) (n : ℕ
         (λ m₅ l₅. again m₅ (omega arith) tt tt b tt))))
         (λ q. rw q (
         let w : min (level v) remaining ≤ remaining = min-le_right (level v) remaining in
-        fetches (min (level v) remaining) (t.at + (t.len - remaining)) (remaining - min (level v) remaining) queue
+        fetches (min (level v) remaining) (t.operation.at + (t.operation.len - remaining)) (remaining - min (level v) remaining) queue
         batch m₃ _ (omega arith) (omega arith) fits
         (λ m₄ l₄ p b. back m₄ (omega arith) (remaining - min (level v) remaining) queue batch p b (omega arith)) p b)))
         (λ m₃ l₃ p r. ending_agrees coded kinds lengths bytes t k top n good (Err r) m₃ (omega arith) (omega arith) p b))) tt tt b tt
@@ -131,10 +131,10 @@ module _ (coded : Bool) (kinds lengths bytes : List ℕ) (t : Transfer) (n : ℕ
         → m ≤ top
         → m ≤ n
         → (p : Point) (b : List ℕ) (next : Counts → Behaviour (Unit {0}) Answer)
-        → remaining ≤ t.len
+        → remaining ≤ t.operation.len
         → Back m next
         → Does m (turn_at p remaining queue batch) b
-        (read_round reason_of t.at t.len t.restart t.send_stop
+        (read_round reason_of t.operation.at t.operation.len t.operation.restart t.operation.send_stop
         (record { remaining = remaining; remaining_queue = queue }) n (λ w. by_turn w next (ending t k n)))
     unfolding tx_fifo_capacity next_turn next_at next_round store_at store_round step_of step_round places batch_step
     turns zero queue batch m h l p b next some back = ending_agrees coded kinds lengths bytes t k top n good (Ok tt) m h l p b
@@ -151,24 +151,24 @@ module _ (coded : Bool) (kinds lengths bytes : List ℕ) where
   pub read_async_agrees : (t : Transfer) (k : Unit {0} → Behaviour (Unit {0}) Answer) (top n m : ℕ)
       → m ≤ top
       → m ≤ n
-      → 0 < t.len
-      → t.at + t.len ≤ MOST
+      → 0 < t.operation.len
+      → t.operation.at + t.operation.len ≤ MOST
       → Good coded kinds lengths bytes t k top
       → (b : List ℕ)
-      → Agrees coded kinds lengths bytes m (with_point t (some_read Async t.len)) b
-      (read_async_internal reason_of t.at t.len t.restart t.send_stop n k)
+      → Agrees coded kinds lengths bytes m (with_point t (some_read Async t.operation.len)) b
+      (read_async_internal reason_of t.operation.at t.operation.len t.operation.restart t.operation.send_stop n k)
   unfolding read_async_internal some_read next_turn
   read_async_agrees t k top n m h l some fits good b =
-      let z : eqb t.len 0 ≡ false = ne_eqb t.len 0 (λ e. omega arith) in
-      let whole : Agrees coded kinds lengths bytes m (turn_at coded kinds lengths bytes t n t.point t.len t.len 0) b
-      (rounds n n (read_round reason_of t.at t.len t.restart t.send_stop)
-      (record { remaining = t.len; remaining_queue = t.len }) (ending t k n))
+      let z : eqb t.operation.len 0 ≡ false = ne_eqb t.operation.len 0 (λ e. omega arith) in
+      let whole : Agrees coded kinds lengths bytes m (turn_at coded kinds lengths bytes t n t.point t.operation.len t.operation.len 0) b
+      (rounds n n (read_round reason_of t.operation.at t.operation.len t.operation.restart t.operation.send_stop)
+      (record { remaining = t.operation.len; remaining_queue = t.operation.len }) (ending t k n))
       = loop_agree (M coded kinds lengths bytes) n _ _
       (λ (x : Counts) (y : Point × ℕ). turn_at coded kinds lengths bytes t n y.0 x.remaining
       x.remaining_queue y.1)
-      (λ x y. x.remaining ≤ t.len) n m l
+      (λ x y. x.remaining ≤ t.operation.len) n m l
       (λ m₁ l₁ x y b some next back. turns coded kinds lengths bytes t n k top good fits x.remaining
       x.remaining_queue y.1 m₁ (omega arith) (omega arith) y.0 b next some
       (λ m₂ l₂ remaining queue batch p b some. back m₂ l₂ (record { remaining = remaining; remaining_queue = queue }) (p, batch) b some))
-      (record { remaining = t.len; remaining_queue = t.len }) (t.point, 0) b (le_refl t.len) in
+      (record { remaining = t.operation.len; remaining_queue = t.operation.len }) (t.point, 0) b (le_refl t.operation.len) in
       rw z (rw z at whole)

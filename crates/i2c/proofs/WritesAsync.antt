@@ -79,18 +79,18 @@ module _ (coded : Bool) (kinds lengths bytes : List ℕ) (t : Transfer) (k : Uni
       → (p : Point) (b : List ℕ) (next : List ℕ → Behaviour (Unit {0}) Answer)
       → Held bytes t rest i
       → Back m next
-      → Does m (moved_to coded kinds lengths (with_point t p) (filling t.len t.send_stop i space)) b
-      (fill t.send_stop space rest n (λ f. wait_space reason_of f n (λ w. by_turn w next (ending t k n))))
+      → Does m (moved_to coded kinds lengths (with_point t p) (filling t.operation.len t.operation.send_stop i space)) b
+      (fill t.operation.send_stop space rest n (λ f. wait_space reason_of f n (λ w. by_turn w next (ending t k n))))
   unfolding fill filling next_at next_fill fill_word store_at step_of step_fill after_index
   fills zero rest i m h l p b next held back = waits i rest m h l b next held back
   fills (suc space) [] i m h l p b next held back =
-      let e : i ≡ t.len = held_end bytes t i held in
-      rw (ne_eqb (suc space) 0 (λ z. omega arith), le-ltb i t.len (omega arith))
+      let e : i ≡ t.operation.len = held_end bytes t i held in
+      rw (ne_eqb (suc space) 0 (λ z. omega arith), le-ltb i t.operation.len (omega arith))
       (ending_agrees coded kinds lengths bytes t k top n good (Ok tt) m h l p b)
   fills (suc space) (byte ∷ rest) i m h l p b next held back =
-      let c : (get_or bytes (t.at + i) 0 ≡ byte) × (Held bytes t rest (i + 1) × (i < t.len)) = held_head bytes t byte rest i held in
-      let e : get_or bytes (t.at + i) 0 ≡ byte = c.0 in
-      let g : ltb i t.len ≡ true = lt-ltb i t.len c.1.1 in
+      let c : (get_or bytes (t.operation.at + i) 0 ≡ byte) × (Held bytes t rest (i + 1) × (i < t.operation.len)) = held_head bytes t byte rest i held in
+      let e : get_or bytes (t.operation.at + i) 0 ≡ byte = c.0 in
+      let g : ltb i t.operation.len ≡ true = lt-ltb i t.operation.len c.1.1 in
       let z : suc space - 1 ≡ space = omega arith in
       rw (ne_eqb (suc space) 0 (λ z. omega arith), g)
       (writes_agree W m (rw (held_last bytes t byte rest i held, e))
@@ -105,7 +105,7 @@ module _ (coded : Bool) (kinds lengths bytes : List ℕ) where
       → Held bytes t ws 0
       → Good coded kinds lengths bytes t k top
       → (b : List ℕ)
-      → Agrees coded kinds lengths bytes m (with_point t (WriteAsync (F.Free 0))) b (write_async_internal reason_of ws t.send_stop n k)
+      → Agrees coded kinds lengths bytes m (with_point t (WriteAsync (F.Free 0))) b (write_async_internal reason_of ws t.operation.send_stop n k)
   unfolding write_async_internal tx_fifo_capacity next_at next_fill store_at step_of step_fill places free_step
   write_async_agrees t k top n m h l ws held good b =
       loop_agree (M coded kinds lengths bytes) n _ _ (λ rest i. with_point t (WriteAsync (F.Free i))) (λ rest i. Held bytes t rest i) n m l

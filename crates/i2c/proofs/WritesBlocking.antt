@@ -50,7 +50,7 @@ module _ (coded : Bool) (kinds lengths bytes : List ℕ) (t : Transfer) (k : Uni
     → Agrees coded kinds lengths bytes m (begun coded kinds lengths (with_point t p)) b (k tt))
   where
     abbrev bytes_from : ℕ → List ℕ → Behaviour (Unit {0}) Answer
-    bytes_from i rest = write_blocking_bytes reason_of t.len t.send_stop i rest n k
+    bytes_from i rest = write_blocking_bytes reason_of t.operation.len t.operation.send_stop i rest n k
 
     -- the wait for STOP after an abort or the last byte, and what follows it
     stops : (r : T.Tried) (rest : Behaviour (Unit {0}) Answer) (m : ℕ) → m ≤ n → (b : List ℕ)
@@ -71,7 +71,7 @@ module _ (coded : Bool) (kinds lengths bytes : List ℕ) (t : Transfer) (k : Uni
     -- what follows the abort's source, for byte i with `rest` after it
     abbrev settles : ℕ → List ℕ → Tried (Unit {0}) → Behaviour (Unit {0}) Answer
     settles i rest abort_reason =
-        when (is_err abort_reason || (t.send_stop && eqb i (t.len - 1)))
+        when (is_err abort_reason || (t.operation.send_stop && eqb i (t.operation.len - 1)))
         (while RAW_INTR_STAT (λ stat. not (stop_det stat)) skip >> (get CLR_STOP_DET >> skip)) n
         (λ _. try abort_reason n (λ _. bytes_from (i + 1) rest))
 
@@ -81,7 +81,7 @@ module _ (coded : Bool) (kinds lengths bytes : List ℕ) (t : Transfer) (k : Uni
         → m' < m
         → (p : Point) (b : List ℕ)
         → Agrees coded kinds lengths bytes m'
-        (moved_to coded kinds lengths (with_point t p) (returned t.len t.send_stop (C.Write i) (Ok tt))) b
+        (moved_to coded kinds lengths (with_point t p) (returned t.operation.len t.operation.send_stop (C.Write i) (Ok tt))) b
         (settles i rest (ok tt)))
         → Agrees coded kinds lengths bytes m (with_point t (WriteBlocking (W.Send i))) b (bytes_from i (byte ∷ rest))
     unfolding write_blocking_bytes next_at next_write write_word store_at step_of step_write returned try_step
@@ -100,22 +100,22 @@ module _ (coded : Bool) (kinds lengths bytes : List ℕ) (t : Transfer) (k : Uni
         → Agrees coded kinds lengths bytes m (with_point t (WriteBlocking (W.Send i))) b (bytes_from i (byte ∷ rest))
     unfolding write_blocking_bytes returned closes try_step
     bytes_agree byte [] i m h l b held =
-        let e : i + 1 ≡ t.len = held.sum in
-        sends byte [] i m h l b held (λ m₁ l₁ p b. by_test (t.send_stop && eqb i (t.len - 1))
+        let e : i + 1 ≡ t.operation.len = held.sum in
+        sends byte [] i m h l b held (λ m₁ l₁ p b. by_test (t.operation.send_stop && eqb i (t.operation.len - 1))
         (λ q. rw q (stops (Ok tt) _ m₁ (omega arith) b (λ m₂ l₂ p b. good m₂ (omega arith) p b)))
-        (λ q. rw (q, lt-ltb i t.len (omega arith), le-ltb (i + 1) t.len (omega arith)) (good m₁ (omega arith) p b)))
+        (λ q. rw (q, lt-ltb i t.operation.len (omega arith), le-ltb (i + 1) t.operation.len (omega arith)) (good m₁ (omega arith) p b)))
     bytes_agree byte (next ∷ rest) i m h l b held =
-        let e : i + suc (suc (length rest)) ≡ t.len = held.sum in
-        sends byte (next ∷ rest) i m h l b held (λ m₁ l₁ p b. by_test (t.send_stop && eqb i (t.len - 1))
-        (λ q. absurd (not_both t.send_stop (eqb i (t.len - 1)) (ne_eqb i (t.len - 1) (λ z. omega arith)) q))
-        (λ q. rw (q, lt-ltb i t.len (omega arith), lt-ltb (i + 1) t.len (omega arith))
+        let e : i + suc (suc (length rest)) ≡ t.operation.len = held.sum in
+        sends byte (next ∷ rest) i m h l b held (λ m₁ l₁ p b. by_test (t.operation.send_stop && eqb i (t.operation.len - 1))
+        (λ q. absurd (not_both t.operation.send_stop (eqb i (t.operation.len - 1)) (ne_eqb i (t.operation.len - 1) (λ z. omega arith)) q))
+        (λ q. rw (q, lt-ltb i t.operation.len (omega arith), lt-ltb (i + 1) t.operation.len (omega arith))
         (bytes_agree next rest (i + 1) m₁ (omega arith) (omega arith) b (held_head bytes t byte (next ∷ rest) i held).1.0)))
 
-    pub write_blocking_agrees : (ws : List ℕ) (m : ℕ) → m ≤ top → m ≤ n → (b : List ℕ) → Held bytes t ws 0 → 0 < t.len
+    pub write_blocking_agrees : (ws : List ℕ) (m : ℕ) → m ≤ top → m ≤ n → (b : List ℕ) → Held bytes t ws 0 → 0 < t.operation.len
         → Agrees coded kinds lengths bytes m (with_point t (WriteBlocking (W.Send 0))) b
-        (write_blocking_internal reason_of ws t.send_stop n k)
+        (write_blocking_internal reason_of ws t.operation.send_stop n k)
     unfolding write_blocking_internal
     write_blocking_agrees [] m h l b held pos = absurd (omega (arith, held.sum))
     write_blocking_agrees (byte ∷ ws) m h l b held pos =
-        let e : suc (length ws) ≡ t.len = omega (arith, held.sum) in
+        let e : suc (length ws) ≡ t.operation.len = omega (arith, held.sum) in
         rw (ne_eqb (suc (length ws)) 0 (λ z. omega arith), e) (bytes_agree byte ws 0 m h l b held)

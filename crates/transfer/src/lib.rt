@@ -5,6 +5,9 @@
 
 pub mod counts; // places of the FIFO, and places in a buffer
 
+ghost use Rattle.std.specs.Prelude.{◌≡◌};
+ghost use Rattle.transfer.specs.Inner.Points.{with_point};
+
 use regs::answers::{AbortReason, Answer, Refusal};
 
 #[derive(Clone, Copy)]
@@ -126,19 +129,33 @@ pub enum Point {
 // Where a reading leads: to a point, to the next operation, or to the end of the transfer by a refusal.
 pub type Step = Result<Option<Point>, Refusal>;
 
-// A transfer: its point, the operation under way (where it starts in its
-// buffer, its length, and whether STOP rides on its last word), the number
-// of operations begun, and where the next read and the next write start.
+// The operation under way: where it starts in its buffer, its length, whether a read's first word
+// carries RESTART, and whether STOP rides on its last word.
+#[derive(Clone, Copy)]
+pub struct Operation {
+    pub at: usize,
+    pub len: u16,
+    pub restart: bool,
+    pub send_stop: bool,
+}
+
+// A transfer: its point, the operation under way, the number of operations
+// begun, and where the next read and the next write start.
 #[derive(Clone, Copy)]
 pub struct Transfer {
     pub point: Point,
     pub mode: Mode,
-    pub restart: bool,
-    pub send_stop: bool,
     pub address: u16,
-    pub len: u16,
-    pub at: usize,
+    pub operation: Operation,
     pub begun: usize,
     pub reads: usize,
     pub writes: usize,
+}
+
+impl Transfer {
+    pub fn at_point(self, point: Point) -> Self
+        ensures { result ≡ with_point self point }
+    {
+        Transfer { point, ..self }
+    }
 }

@@ -14,14 +14,14 @@ use transfer::{Point, Transfer};
 pub fn next_access(t: Transfer, bytes: &[u8]) -> Next
     ensures { result ≡ next_of bytes.now t }
 {
-    let p = t.point;
-    match p {
+    let operation = t.operation;
+    match t.point {
         Point::Setup(s) => words::next_setup(s, t.address),
         Point::Abort(a, _) => words::next_abort(a),
-        Point::ReadBlocking(b) => words::next_read(b, t.len, t.send_stop, t.restart),
-        Point::WriteBlocking(w) => words::next_write(w, bytes, t.at, t.len, t.send_stop),
-        Point::ReadAsync(q) => words::next_round(q, t.len, t.send_stop, t.restart),
-        Point::WriteAsync(f) => words::next_fill(f, bytes, t.at, t.len, t.send_stop),
+        Point::ReadBlocking(b) => words::next_read(b, operation),
+        Point::WriteBlocking(w) => words::next_write(w, operation, bytes),
+        Point::ReadAsync(q) => words::next_round(q, operation),
+        Point::WriteAsync(f) => words::next_fill(f, operation, bytes),
         Point::Wait(m) => words::next_wait(m),
         Point::Stop(s) => words::next_stop(s),
         Point::Finished(a) => Next::Finished(a),
@@ -33,16 +33,9 @@ pub fn next_access(t: Transfer, bytes: &[u8]) -> Next
 pub fn store(t: Transfer, v: u32) -> Store
     ensures { result ≡ store_of t v }
 {
-    let p = t.point;
-    match p {
-        Point::Setup(_) => None,
-        Point::Abort(_, _) => None,
-        Point::ReadBlocking(b) => words::store_read(t.at, b, v),
-        Point::WriteBlocking(_) => None,
-        Point::ReadAsync(q) => words::store_round(t.at, t.len, q, v),
-        Point::WriteAsync(_) => None,
-        Point::Wait(_) => None,
-        Point::Stop(_) => None,
-        Point::Finished(_) => None,
+    match t.point {
+        Point::ReadBlocking(b) => words::store_read(b, t.operation, v),
+        Point::ReadAsync(q) => words::store_round(q, t.operation, v),
+        _ => None,
     }
 }

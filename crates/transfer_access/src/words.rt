@@ -10,41 +10,41 @@ use regs::access::{Next, Store};
 use regs::fields::{address_of, word_of};
 use transfer::counts::sum;
 use transfer::{
-    AbortPoint, FillPoint, ReadPoint, RoundPoint, SetupPoint, StopPoint, WaitPoint, WritePoint,
+    AbortPoint, FillPoint, Operation, ReadPoint, RoundPoint, SetupPoint, StopPoint, WaitPoint,
+    WritePoint,
 };
 
+// Past the end of the buffer, 0 is sent.
 fn byte_of(bytes: &[u8], at: usize, i: u16) -> u8
     ensures { result ≡ byte_at bytes.now at i }
 {
-    if at < bytes.len() {
-        let rest = bytes.len() - at;
-        if (i as usize) < rest {
-            let k = at + i as usize;
-            return bytes[k];
-        }
+    match bytes.get(at.saturating_add(i as usize)) {
+        Some(&byte) => byte,
+        None => 0,
     }
-    0
 }
 
 // A blocking read's word for byte i.
 #[tactic(auto, unfolding(transfer::specs::Inner::Machine::read_word))]
-fn word_of_read(i: u16, len: u16, send_stop: bool, restart: bool) -> u32
-    ensures { result ≡ read_word i len send_stop restart }
+fn word_of_read(i: u16, operation: Operation) -> u32
+    ensures { result ≡ read_word i operation.len operation.send_stop operation.restart }
 {
+    let last = i == operation.len.saturating_sub(1);
     word_of(
         0,
         true,
-        send_stop & (i == len.saturating_sub(1)),
-        restart & (i == 0),
+        operation.send_stop & last,
+        operation.restart & (i == 0),
     )
 }
 
 // A blocking write's word for byte i.
 #[tactic(auto, unfolding(transfer::specs::Inner::Machine::write_word))]
-fn word_of_write(byte: u8, i: u16, len: u16, send_stop: bool) -> u32
-    ensures { result ≡ write_word byte i len send_stop }
+fn word_of_write(byte: u8, i: u16, operation: Operation) -> u32
+    ensures { result ≡ write_word byte i operation.len operation.send_stop }
 {
-    word_of(byte, false, send_stop & (i == len.saturating_sub(1)), false)
+    let last = i == operation.len.saturating_sub(1);
+    word_of(byte, false, operation.send_stop & last, false)
 }
 
 // An async read's word, with so many still to queue.
@@ -91,25 +91,25 @@ pub fn next_abort(p: AbortPoint) -> Next
 }
 
 #[tactic(auto, unfolding(transfer::specs::Inner::Machine::next_read))]
-pub fn next_read(p: ReadPoint, len: u16, send_stop: bool, restart: bool) -> Next
-    ensures { result ≡ next_read len send_stop restart p }
+pub fn next_read(p: ReadPoint, operation: Operation) -> Next
+    ensures { result ≡ next_read operation.len operation.send_stop operation.restart p }
 {
     match p {
         ReadPoint::Room(_) => Next::Read(regs::TXFLR),
-        ReadPoint::Ask(i) => Next::Write(regs::DATA_CMD, word_of_read(i, len, send_stop, restart)),
+        ReadPoint::Ask(i) => Next::Write(regs::DATA_CMD, word_of_read(i, operation)),
         ReadPoint::Level(_) => Next::Read(regs::RXFLR),
         ReadPoint::Take(_) => Next::Read(regs::DATA_CMD),
     }
 }
 
 #[tactic(auto, unfolding(transfer::specs::Inner::Machine::next_write))]
-pub fn next_write(p: WritePoint, bytes: &[u8], at: usize, len: u16, send_stop: bool) -> Next
-    ensures { result ≡ next_write bytes.now at len send_stop p }
+pub fn next_write(p: WritePoint, operation: Operation, bytes: &[u8]) -> Next
+    ensures { result ≡ next_write bytes.now operation.at operation.len operation.send_stop p }
 {
     match p {
         WritePoint::Send(i) => Next::Write(
             regs::DATA_CMD,
-            word_of_write(byte_of(bytes, at, i), i, len, send_stop),
+            word_of_write(byte_of(bytes, operation.at, i), i, operation),
         ),
         WritePoint::Empty(_) => Next::Read(regs::RAW_INTR_STAT),
         WritePoint::StopDet(_) => Next::Read(regs::RAW_INTR_STAT),
@@ -117,14 +117,19 @@ pub fn next_write(p: WritePoint, bytes: &[u8], at: usize, len: u16, send_stop: b
 }
 
 #[tactic(auto, unfolding(transfer::specs::Inner::Machine::next_round))]
-pub fn next_round(p: RoundPoint, len: u16, send_stop: bool, restart: bool) -> Next
-    ensures { result ≡ next_round len send_stop restart p }
+pub fn next_round(p: RoundPoint, operation: Operation) -> Next
+    ensures { result ≡ next_round operation.len operation.send_stop operation.restart p }
 {
     match p {
         RoundPoint::Capacity(_) => Next::Read(regs::TXFLR),
         RoundPoint::Queue(round, _) => Next::Write(
             regs::DATA_CMD,
-            word_of_queue(round.queue, len, send_stop, restart),
+            word_of_queue(
+                round.queue,
+                operation.len,
+                operation.send_stop,
+                operation.restart,
+            ),
         ),
         RoundPoint::Level(_) => Next::Read(regs::RXFLR),
         RoundPoint::Fetch(_, _) => Next::Read(regs::DATA_CMD),
@@ -132,14 +137,19 @@ pub fn next_round(p: RoundPoint, len: u16, send_stop: bool, restart: bool) -> Ne
 }
 
 #[tactic(auto, unfolding(transfer::specs::Inner::Machine::next_fill))]
-pub fn next_fill(p: FillPoint, bytes: &[u8], at: usize, len: u16, send_stop: bool) -> Next
-    ensures { result ≡ next_fill bytes.now at len send_stop p }
+pub fn next_fill(p: FillPoint, operation: Operation, bytes: &[u8]) -> Next
+    ensures { result ≡ next_fill bytes.now operation.at operation.len operation.send_stop p }
 {
     match p {
         FillPoint::Free(_) => Next::Read(regs::TXFLR),
         FillPoint::Fill(i, _) => Next::Write(
             regs::DATA_CMD,
-            word_of_fill(byte_of(bytes, at, i), i, len, send_stop),
+            word_of_fill(
+                byte_of(bytes, operation.at, i),
+                i,
+                operation.len,
+                operation.send_stop,
+            ),
         ),
         FillPoint::Full(_) => Next::Read(regs::TXFLR),
     }
@@ -169,28 +179,28 @@ pub fn next_stop(p: StopPoint) -> Next
 }
 
 #[tactic(auto, unfolding(transfer::specs::Inner::Machine::store_read))]
-pub fn store_read(at: usize, p: ReadPoint, v: u32) -> Store
-    ensures { result ≡ store_read at p v }
+pub fn store_read(p: ReadPoint, operation: Operation, v: u32) -> Store
+    ensures { result ≡ store_read operation.at p v }
 {
     match p {
-        ReadPoint::Room(_) => None,
-        ReadPoint::Ask(_) => None,
-        ReadPoint::Level(_) => None,
-        ReadPoint::Take(i) => Some((sum(at, i), regs::fields::byte_of(v))),
+        ReadPoint::Take(i) => Some((sum(operation.at, i), regs::fields::byte_of(v))),
+        ReadPoint::Room(_) | ReadPoint::Ask(_) | ReadPoint::Level(_) => None,
     }
 }
 
+// The bytes that remain after a round, and those of the round that are left, are counted back from the end.
 #[tactic(auto, unfolding(transfer::specs::Inner::Machine::store_round))]
-pub fn store_round(at: usize, len: u16, p: RoundPoint, v: u32) -> Store
-    ensures { result ≡ store_round at len p v }
+pub fn store_round(p: RoundPoint, operation: Operation, v: u32) -> Store
+    ensures { result ≡ store_round operation.at operation.len p v }
 {
     match p {
-        RoundPoint::Capacity(_) => None,
-        RoundPoint::Queue(_, _) => None,
-        RoundPoint::Level(_) => None,
-        RoundPoint::Fetch(round, left) => Some((
-            sum(at, len.saturating_sub(round.remaining).saturating_sub(left)),
-            regs::fields::byte_of(v),
-        )),
+        RoundPoint::Fetch(round, left) => {
+            let i = operation
+                .len
+                .saturating_sub(round.remaining)
+                .saturating_sub(left);
+            Some((sum(operation.at, i), regs::fields::byte_of(v)))
+        }
+        RoundPoint::Capacity(_) | RoundPoint::Queue(..) | RoundPoint::Level(_) => None,
     }
 }

@@ -8,7 +8,7 @@ ghost use Rattle.transfer.specs.Inner.Machine.{returned, step_setup, step_abort,
 use regs::answers::{AbortReason, Refusal};
 use regs::fields::{is_arbitration_loss, is_data_not_acknowledged, is_no_acknowledge};
 use transfer::{
-    AbortPoint, Caller, FillPoint, Point, ReadPoint, SetupPoint, Step, Tried, WritePoint,
+    AbortPoint, Caller, FillPoint, Operation, Point, ReadPoint, SetupPoint, Step, Tried, WritePoint,
 };
 use transfer_after_async::{after_fill, after_round, batch_read};
 use transfer_after_blocking::{after_read, after_write, byte_written};
@@ -30,17 +30,24 @@ fn reason(w: u32) -> AbortReason
 
 // `read_and_clear_abort_reason` returns to its caller.
 #[tactic(auto, unfolding(transfer::specs::Inner::Machine::returned))]
-fn return_to(len: u16, send_stop: bool, caller: Caller, abort: Tried) -> Step
-    ensures { result ≡ returned len send_stop caller abort }
+fn return_to(operation: Operation, caller: Caller, abort: Tried) -> Step
+    ensures { result ≡ returned operation.len operation.send_stop caller abort }
 {
     match (caller, abort) {
         (Caller::Read(i), Ok(())) => Ok(Some(Point::ReadBlocking(ReadPoint::Level(i)))),
         (Caller::Read(_), Err(r)) => Err(Refusal::Abort(r)),
-        (Caller::Write(i), Ok(())) => Ok(byte_written(len, send_stop, i)),
+        (Caller::Write(i), Ok(())) => Ok(byte_written(operation, i)),
         (Caller::Write(_), Err(_)) => Ok(Some(Point::WriteBlocking(WritePoint::StopDet(abort)))),
-        (Caller::Batch(round, rxfifo), Ok(())) => Ok(batch_read(send_stop, round, rxfifo)),
+        (Caller::Batch(round, rxfifo), Ok(())) => Ok(batch_read(
+            operation.send_stop,
+            round,
+            rxfifo,
+        )),
         (Caller::Space(i), Ok(())) => Ok(Some(Point::WriteAsync(FillPoint::Full(i)))),
-        (Caller::Batch(..) | Caller::Space(_), Err(_)) => Ok(wait_for_stop(send_stop, abort)),
+        (Caller::Batch(..) | Caller::Space(_), Err(_)) => Ok(wait_for_stop(
+            operation.send_stop,
+            abort,
+        )),
         (Caller::Stop(had), _) => Ok(Some(stop_polled(had, abort))),
     }
 }
@@ -57,28 +64,28 @@ fn after_setup(p: SetupPoint) -> Option<Point>
 }
 
 #[tactic(auto, unfolding(transfer::specs::Inner::Machine::step_abort))]
-fn after_abort(len: u16, send_stop: bool, caller: Caller, p: AbortPoint, v: u32) -> Step
-    ensures { result ≡ step_abort len send_stop caller p v }
+fn after_abort(operation: Operation, caller: Caller, p: AbortPoint, v: u32) -> Step
+    ensures { result ≡ step_abort operation.len operation.send_stop caller p v }
 {
     match p {
-        AbortPoint::Source if v == 0 => return_to(len, send_stop, caller, Ok(())),
+        AbortPoint::Source if v == 0 => return_to(operation, caller, Ok(())),
         AbortPoint::Source => Ok(Some(Point::Abort(AbortPoint::Clear(v), caller))),
-        AbortPoint::Clear(w) => return_to(len, send_stop, caller, Err(reason(w))),
+        AbortPoint::Clear(w) => return_to(operation, caller, Err(reason(w))),
     }
 }
 
 // What the Rust does from an access, which read v, up to the next one.
 #[tactic(auto, unfolding(transfer::specs::Inner::Machine::step_of))]
-pub fn step_of(len: u16, send_stop: bool, p: Point, v: u32) -> Step
-    ensures { result ≡ step_of len send_stop p v }
+pub fn step_of(operation: Operation, p: Point, v: u32) -> Step
+    ensures { result ≡ step_of operation.len operation.send_stop p v }
 {
     match p {
         Point::Setup(s) => Ok(after_setup(s)),
-        Point::Abort(a, caller) => after_abort(len, send_stop, caller, a, v),
-        Point::ReadBlocking(b) => after_read(len, b, v),
+        Point::Abort(a, caller) => after_abort(operation, caller, a, v),
+        Point::ReadBlocking(b) => after_read(operation.len, b, v),
         Point::WriteBlocking(w) => Ok(Some(after_write(w, v))),
-        Point::ReadAsync(q) => after_round(send_stop, q, v),
-        Point::WriteAsync(f) => after_fill(len, send_stop, f, v),
+        Point::ReadAsync(q) => after_round(operation.send_stop, q, v),
+        Point::WriteAsync(f) => after_fill(operation, f, v),
         Point::Wait(m) => Ok(Some(after_wait(m, v))),
         Point::Stop(s) => after_stop(s, v),
         Point::Finished(_) => Ok(Some(p)),

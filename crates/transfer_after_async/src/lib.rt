@@ -7,7 +7,9 @@ ghost use Rattle.transfer.specs.Inner.Machine.{step_round, step_fill};
 
 use regs::fields::level_of;
 use transfer::counts::capacity_of;
-use transfer::{AbortPoint, Caller, FillPoint, Point, Round, RoundPoint, Step, WaitPoint};
+use transfer::{
+    AbortPoint, Caller, FillPoint, Operation, Point, Round, RoundPoint, Step, WaitPoint,
+};
 use transfer_after_waits::wait_for_stop;
 
 #[tactic(auto, unfolding(transfer::specs::Inner::Machine::after_index))]
@@ -55,15 +57,15 @@ fn fetch(send_stop: bool, round: Round, left: u16) -> Option<Point>
 
 // An async write: from byte i on, with so many free places.
 #[tactic(auto, unfolding(transfer::specs::Inner::Machine::filling))]
-fn fill(len: u16, send_stop: bool, i: u16, space: u16) -> Option<Point>
-    ensures { filling len send_stop i space ≡ Ok result }
+fn fill(operation: Operation, i: u16, space: u16) -> Option<Point>
+    ensures { filling operation.len operation.send_stop i space ≡ Ok result }
 {
     if space == 0 {
         Some(Point::Abort(AbortPoint::Source, Caller::Space(i)))
-    } else if i < len {
+    } else if i < operation.len {
         Some(Point::WriteAsync(FillPoint::Fill(i, space)))
     } else {
-        wait_for_stop(send_stop, Ok(()))
+        wait_for_stop(operation.send_stop, Ok(()))
     }
 }
 
@@ -129,17 +131,15 @@ fn after_full(i: u16, v: u32) -> Step
 }
 
 #[tactic(auto, unfolding(transfer::specs::Inner::Machine::step_fill, transfer::specs::Inner::Machine::free_step))]
-pub fn after_fill(len: u16, send_stop: bool, p: FillPoint, v: u32) -> Step
-    ensures { result ≡ step_fill len send_stop p v }
+pub fn after_fill(operation: Operation, p: FillPoint, v: u32) -> Step
+    ensures { result ≡ step_fill operation.len operation.send_stop p v }
 {
     match p {
-        FillPoint::Free(i) => Ok(fill(len, send_stop, i, capacity_of(v)?)),
-        FillPoint::Fill(i, space) => Ok(fill(
-            len,
-            send_stop,
-            one_more(len, i),
-            space.saturating_sub(1),
-        )),
+        FillPoint::Free(i) => Ok(fill(operation, i, capacity_of(v)?)),
+        FillPoint::Fill(i, space) => {
+            let next = one_more(operation.len, i);
+            Ok(fill(operation, next, space.saturating_sub(1)))
+        }
         FillPoint::Full(i) => after_full(i, v),
     }
 }

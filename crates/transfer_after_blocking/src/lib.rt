@@ -7,14 +7,14 @@ ghost use Rattle.transfer.specs.Inner.Machine.{step_write};
 
 use regs::fields::{has_stop_det, has_tx_empty, level_of};
 use transfer::counts::capacity_of;
-use transfer::{AbortPoint, Caller, Point, ReadPoint, Step, StopPoint, WritePoint};
+use transfer::{AbortPoint, Caller, Operation, Point, ReadPoint, Step, StopPoint, WritePoint};
 
 // STOP rides on byte i.
 #[tactic(auto, unfolding(transfer::specs::Inner::Machine::closes))]
-fn is_closing(len: u16, send_stop: bool, i: u16) -> bool
-    ensures { result ≡ closes len send_stop i }
+fn is_closing(operation: Operation, i: u16) -> bool
+    ensures { result ≡ closes operation.len operation.send_stop i }
 {
-    send_stop & (i == len.saturating_sub(1))
+    operation.send_stop & (i == operation.len.saturating_sub(1))
 }
 
 // The byte after byte i, if there is one.
@@ -27,13 +27,13 @@ fn next_byte(len: u16, i: u16) -> Option<u16>
 
 // A byte that was written without an abort.
 #[tactic(auto, unfolding(transfer::specs::Inner::Machine::returned))]
-pub fn byte_written(len: u16, send_stop: bool, i: u16) -> Option<Point>
-    ensures { returned len send_stop (Caller.Write i) (Ok tt) ≡ Ok result }
+pub fn byte_written(operation: Operation, i: u16) -> Option<Point>
+    ensures { returned operation.len operation.send_stop (Caller.Write i) (Ok tt) ≡ Ok result }
 {
-    if is_closing(len, send_stop, i) {
+    if is_closing(operation, i) {
         return Some(Point::WriteBlocking(WritePoint::StopDet(Ok(()))));
     }
-    let next = next_byte(len, i)?;
+    let next = next_byte(operation.len, i)?;
     Some(Point::WriteBlocking(WritePoint::Send(next)))
 }
 

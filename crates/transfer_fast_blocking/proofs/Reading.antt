@@ -26,14 +26,14 @@ module _ (coded : Bool) (kinds lengths bytes : List ℕ) {readings : List ℕ} (
       → u + 3 ≤ length readings
       → level (get_or readings u 0) < 16
       → (level (get_or readings (u + 1) 0) ≡ 0 → ⊥)
-      → i + 1 < t.len
-      → t.at + i < 2 ^ 64
+      → i + 1 < t.operation.len
+      → t.operation.at + i < 2 ^ 64
       → Reaches (machine coded kinds lengths bytes) readings s₀ e₀ u₀ l₀ b₀ (with_point t (ReadBlocking (Room (i + 1)))) (e + 4) (u + 3)
       (entered (entered (entered (entered l e (0x100 + TXFLR) (get_or readings u 0)) (e + 1) (0x200 + DATA_CMD)
-      (command_word 0 true false (t.restart && eqb i 0)))
+      (command_word 0 true false (t.operation.restart && eqb i 0)))
       (e + 2) (0x100 + RXFLR) (get_or readings (u + 1) 0))
       (e + 3) (0x100 + DATA_CMD) (get_or readings (u + 2) 0))
-      (set b (t.at + i) (dat (get_or readings (u + 2) 0)))
+      (set b (t.operation.at + i) (dat (get_or readings (u + 2) 0)))
   unfolding next_at next_read read_word store_at store_read step_of step_read room_step level_step places
   byte_read g room left free filled more place =
       let n = level (get_or readings u 0) in
@@ -42,8 +42,8 @@ module _ (coded : Bool) (kinds lengths bytes : List ℕ) {readings : List ℕ} (
       rw (le-ltb 16 n (omega (arith, free)), ne_eqb (16 - n) 0 (λ (z : 16 - n ≡ 0). omega (arith, free, z))) in
       let g₁ = did_read g refl (omega (arith, room)) (omega (arith, left)) a refl refl in
       let q₂ : e + 2 ≡ e + 1 + 1 = omega arith in
-      let g₂ = did_write g₁ {r = DATA_CMD} {x = command_word 0 true false (t.restart && eqb i 0)}
-      (rw (ne_eqb i (t.len - 1) (λ (z : i ≡ t.len - 1). omega (arith, more, z)), and-false))
+      let g₂ = did_write g₁ {r = DATA_CMD} {x = command_word 0 true false (t.operation.restart && eqb i 0)}
+      (rw (ne_eqb i (t.operation.len - 1) (λ (z : i ≡ t.operation.len - 1). omega (arith, more, z)), and-false))
       (omega (arith, room)) refl q₂ in
       let v₃ : u + 2 ≡ u + 1 + 1 = omega arith in
       let q₃ : e + 3 ≡ e + 2 + 1 = omega arith in
@@ -53,6 +53,6 @@ module _ (coded : Bool) (kinds lengths bytes : List ℕ) {readings : List ℕ} (
       let v₄ : u + 3 ≡ u + 2 + 1 = omega arith in
       let q₄ : e + 4 ≡ e + 3 + 1 = omega arith in
       let a₄ : M.advance (with_point t (ReadBlocking (Take i))) (get_or readings (u + 2) 0) ≡ with_point t (ReadBlocking (Room (i + 1))) =
-      rw (lt-ltb i t.len (omega (arith, more)), lt-ltb (i + 1) t.len more) in
-      let w : (t.at + i) % 2 ^ 64 ≡ t.at + i = omega (arith, place) in
+      rw (lt-ltb i t.operation.len (omega (arith, more)), lt-ltb (i + 1) t.operation.len more) in
+      let w : (t.operation.at + i) % 2 ^ 64 ≡ t.operation.at + i = omega (arith, place) in
       rw w at (did_read g₃ refl (omega (arith, room)) (omega (arith, left)) a₄ q₄ v₄)

@@ -24,17 +24,17 @@ use Rattle.regs_runs.proofs.Reach.{did_read, did_write}
 module _ (coded : Bool) (kinds lengths bytes : List ℕ) {readings : List ℕ} (t : Transfer) {s₀ : Transfer} {e₀ u₀ : ℕ}
     {l₀ b₀ : List ℕ} {i e u : ℕ} {l b : List ℕ} where
   pub byte_written : Reaches (machine coded kinds lengths bytes) readings s₀ e₀ u₀ l₀ b₀ (with_point t (WriteBlocking (Send i))) e u l b
-      → e + 3 ≤ length l₀ / 2 → u + 2 ≤ length readings → tx_empty (get_or readings u 0) ≡ true → get_or readings (u + 1) 0 ≡ 0 → i + 1 < t.len
+      → e + 3 ≤ length l₀ / 2 → u + 2 ≤ length readings → tx_empty (get_or readings u 0) ≡ true → get_or readings (u + 1) 0 ≡ 0 → i + 1 < t.operation.len
       → Reaches (machine coded kinds lengths bytes) readings s₀ e₀ u₀ l₀ b₀ (with_point t (WriteBlocking (Send (i + 1)))) (e + 3) (u + 2)
-      (entered (entered (entered l e (0x200 + DATA_CMD) (command_word (get_or bytes (t.at + i) 0) false false false))
+      (entered (entered (entered l e (0x200 + DATA_CMD) (command_word (get_or bytes (t.operation.at + i) 0) false false false))
       (e + 1) (0x100 + RAW_INTR_STAT) (get_or readings u 0))
       (e + 2) (0x100 + TX_ABRT_SOURCE) (get_or readings (u + 1) 0))
       b
   unfolding next_at next_write next_abort write_word store_at step_of step_write step_abort returned closes
   byte_written g room left sent quiet more =
       let M = machine coded kinds lengths bytes in
-      let last : eqb i (t.len - 1) ≡ false = ne_eqb i (t.len - 1) (λ (z : i ≡ t.len - 1). omega (arith, more, z)) in
-      let g₁ = did_write g {r = DATA_CMD} {x = command_word (get_or bytes (t.at + i) 0) false false false}
+      let last : eqb i (t.operation.len - 1) ≡ false = ne_eqb i (t.operation.len - 1) (λ (z : i ≡ t.operation.len - 1). omega (arith, more, z)) in
+      let g₁ = did_write g {r = DATA_CMD} {x = command_word (get_or bytes (t.operation.at + i) 0) false false false}
       (rw (last, and-false)) (omega (arith, room)) refl refl in
       let q₂ : e + 2 ≡ e + 1 + 1 = omega arith in
       let a₂ : M.advance (with_point t (WriteBlocking (Empty i))) (get_or readings u 0) ≡ with_point t (Abort Source (Write i)) = rw sent in
@@ -46,7 +46,7 @@ module _ (coded : Bool) (kinds lengths bytes : List ℕ) {readings : List ℕ} (
         eq-eqb (get_or readings (u + 1) 0) 0 quiet,
         last,
         and-false,
-        lt-ltb i t.len (omega (arith, more)),
-        lt-ltb (i + 1) t.len more,
+        lt-ltb i t.operation.len (omega (arith, more)),
+        lt-ltb (i + 1) t.operation.len more,
       ) in
       did_read g₂ refl (omega (arith, room)) (omega (arith, left)) a₃ q₃ v₃

@@ -19,8 +19,8 @@ fn is_straight(room: u32, filled: u32) -> bool
 
 // Byte i, where the readings lead straight on; it is not the last one.
 fn byte(t: Transfer, i: u16, recording: &mut Recording, buffer: &mut [u8]) -> bool
-    requires { (i + 1 < t.len)
-        × (t.at + t.len ≤ length buffer.old + 1)
+    requires { (i + 1 < t.operation.len)
+        × (t.operation.at + t.operation.len ≤ length buffer.old + 1)
         × (recording.old.entries ≤ room_of recording.old) }
     ensures taken { result ≡ true
         → ForAny
@@ -36,13 +36,13 @@ fn byte(t: Transfer, i: u16, recording: &mut Recording, buffer: &mut [u8]) -> bo
         let filled = recording.readings[recording.used + 1];
         if is_straight(room, filled) {
             let v = recording.readings[recording.used + 2];
-            let w = word_of(0, true, false, t.restart & (i == 0));
+            let w = word_of(0, true, false, t.operation.restart & (i == 0));
             recording.put_read(regs::TXFLR, room);
             recording.put_write(regs::DATA_CMD, w);
             recording.put_read(regs::RXFLR, filled);
             recording.put_read(regs::DATA_CMD, v);
             recording.used += 3;
-            buffer[t.at + usize::from(i)] = byte_of(v);
+            buffer[t.operation.at + usize::from(i)] = byte_of(v);
             return true;
         }
     }
@@ -51,14 +51,14 @@ fn byte(t: Transfer, i: u16, recording: &mut Recording, buffer: &mut [u8]) -> bo
 
 // Byte after byte, up to the one that is next; the last one is the machine's.
 fn run(t: Transfer, from: u16, recording: &mut Recording, buffer: &mut [u8]) -> u16
-    requires { (from < t.len)
-        × (t.at + t.len ≤ length buffer.old + 1)
+    requires { (from < t.operation.len)
+        × (t.operation.at + t.operation.len ≤ length buffer.old + 1)
         × (recording.old.entries ≤ room_of recording.old) }
     ensures { ForAny
         (λ (bytes : List ℕ). Bursts t bytes recording.old buffer.old (ReadBlocking (Room from))
         recording.new buffer.new (ReadBlocking (Room result))) }
 {
-    let last = t.len - 1;
+    let last = t.operation.len - 1;
     for i in from..last {
         if !byte(t, i, recording, buffer) {
             return i;
@@ -74,7 +74,7 @@ pub fn burst(t: Transfer, from: u16, recording: &mut Recording, buffer: &mut [u8
         (λ (bytes : List ℕ). Bursts t bytes recording.old buffer.old (ReadBlocking (Room from))
         recording.new buffer.new (ReadBlocking (Room result))) }
 {
-    if is_within(from, t.len, t.at, buffer.len()) {
+    if is_within(from, t.operation.len, t.operation.at, buffer.len()) {
         run(t, from, recording, buffer)
     } else {
         from

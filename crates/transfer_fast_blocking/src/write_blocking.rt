@@ -20,8 +20,8 @@ fn is_straight(stat: u32, source: u32) -> bool
 
 // Byte i, where the readings lead straight on; it is not the last one.
 fn byte(t: Transfer, i: u16, bytes: &[u8], recording: &mut Recording) -> bool
-    requires { (i + 1 < t.len)
-        × (t.at + t.len ≤ length bytes.now + 1)
+    requires { (i + 1 < t.operation.len)
+        × (t.operation.at + t.operation.len ≤ length bytes.now + 1)
         × (recording.old.entries ≤ room_of recording.old) }
     ensures sent { result ≡ true
         → ForAny
@@ -36,7 +36,7 @@ fn byte(t: Transfer, i: u16, bytes: &[u8], recording: &mut Recording) -> bool
         let stat = recording.readings[recording.used];
         let source = recording.readings[recording.used + 1];
         if is_straight(stat, source) {
-            let w = word_of(bytes[t.at + usize::from(i)], false, false, false);
+            let w = word_of(bytes[t.operation.at + usize::from(i)], false, false, false);
             recording.put_write(regs::DATA_CMD, w);
             recording.put_read(regs::RAW_INTR_STAT, stat);
             recording.put_read(regs::TX_ABRT_SOURCE, source);
@@ -49,14 +49,14 @@ fn byte(t: Transfer, i: u16, bytes: &[u8], recording: &mut Recording) -> bool
 
 // Byte after byte, up to the one that is next; the last one is the machine's.
 fn run(t: Transfer, from: u16, bytes: &[u8], recording: &mut Recording) -> u16
-    requires { (from < t.len)
-        × (t.at + t.len ≤ length bytes.now + 1)
+    requires { (from < t.operation.len)
+        × (t.operation.at + t.operation.len ≤ length bytes.now + 1)
         × (recording.old.entries ≤ room_of recording.old) }
     ensures { ForAny
         (λ (buffer : List ℕ). Bursts t bytes.now recording.old buffer (WriteBlocking (Send from))
         recording.new buffer (WriteBlocking (Send result))) }
 {
-    let last = t.len - 1;
+    let last = t.operation.len - 1;
     for i in from..last {
         if !byte(t, i, bytes, recording) {
             return i;
@@ -72,7 +72,7 @@ pub fn burst(t: Transfer, from: u16, bytes: &[u8], recording: &mut Recording) ->
         (λ (buffer : List ℕ). Bursts t bytes.now recording.old buffer (WriteBlocking (Send from))
         recording.new buffer (WriteBlocking (Send result))) }
 {
-    if is_within(from, t.len, t.at, bytes.len()) {
+    if is_within(from, t.operation.len, t.operation.at, bytes.len()) {
         run(t, from, bytes, recording)
     } else {
         from

@@ -37,5 +37,5 @@ module _ (coded : Bool) (kinds lengths bytes : List ℕ) {readings : List ℕ} (
   poll_unset g at unset room left =
       let M = machine coded kinds lengths bytes in
       let a : M.advance (with_point t p) (get_or readings u 0) ≡ with_point t p =
-      rw (at.waits t.len t.send_stop (get_or readings u 0) unset) in
+      rw (at.waits t.operation.len t.operation.send_stop (get_or readings u 0) unset) in
       rw (at.keeps (with_point t p) (get_or readings u 0)) at (did_read g (at.reads bytes (with_point t p)) room left a refl refl)

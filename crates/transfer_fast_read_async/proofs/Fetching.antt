@@ -38,7 +38,7 @@ module _ (coded : Bool) (kinds lengths bytes : List ℕ) {readings : List ℕ} (
       (with_point t (fetched (round remaining queue batch) left)) e u l b
       → 0 < left
       → 0 < remaining
-      → e < length l₀ / 2 → u < length readings → (t.at + (t.len - remaining - left)) % 2 ^ 64 ≡ place
+      → e < length l₀ / 2 → u < length readings → (t.operation.at + (t.operation.len - remaining - left)) % 2 ^ 64 ≡ place
       → Reaches (machine coded kinds lengths bytes) readings s₀ e₀ u₀ l₀ b₀
       (with_point t (fetched (round remaining queue batch) (left - 1))) (e + 1) (u + 1)
       (entered l e (0x100 + DATA_CMD) (get_or readings u 0)) (set b place (dat (get_or readings u 0)))
@@ -83,20 +83,20 @@ module _ {t : Transfer} {remaining count : ℕ} {before : Recording} {b : List �
       → Fetching t remaining count before b n mid b₁
       → n < count
       → 0 < remaining
-      → remaining + count ≤ t.len
-      → t.at + t.len ≤ length b + 1
+      → remaining + count ≤ t.operation.len
+      → t.operation.at + t.operation.len ≤ length b + 1
       → length b < 2 ^ 64
       → before.used + count ≤ length before.readings.now
       → before.entries + count ≤ length before.log.now / 2
       → length before.log.now < 2 ^ 64
       → Reads mid DATA_CMD v after
-      → b' ≡ set b₁ (t.at + (t.len - remaining - count) + n) (dat v)
+      → b' ≡ set b₁ (t.operation.at + (t.operation.len - remaining - count) + n) (dat v)
       → Fetching t remaining count before b (n + 1) after b'
   one_fetched {mid} {after} {b₁} {b'} {n} {v} g more some within held small left room fits x eb =
       let fewer : count - n - 1 ≡ count - (n + 1) = omega arith in
-      let place : ℕ = t.at + (t.len - remaining - count) + n in
-      let to : (t.at + (t.len - remaining - (count - n))) % 2 ^ 64 ≡ place =
-      let exact : t.at + (t.len - remaining - (count - n)) ≡ place = omega (arith, within, more) in
+      let place : ℕ = t.operation.at + (t.operation.len - remaining - count) + n in
+      let to : (t.operation.at + (t.operation.len - remaining - (count - n))) % 2 ^ 64 ≡ place =
+      let exact : t.operation.at + (t.operation.len - remaining - (count - n)) ≡ place = omega (arith, within, more) in
       let low : place < 2 ^ 64 = omega (arith, within, more, some, held, small) in
       rw exact (omega (arith, low)) in
       let space : mid.entries < length mid.log.now / 2 = rw g.keeps.size (omega (arith, g.entries, room, more)) in

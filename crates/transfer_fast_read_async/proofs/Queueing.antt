@@ -38,7 +38,7 @@ module _ (coded : Bool) (kinds lengths bytes : List ℕ) {readings : List ℕ} (
       → e < length l₀ / 2
       → Reaches (machine coded kinds lengths bytes) readings s₀ e₀ u₀ l₀ b₀
       (with_point t (queueing (round remaining (q - 1) batch) (left - 1))) (e + 1) u
-      (entered l e (0x200 + DATA_CMD) (queue_word q t.len t.send_stop t.restart)) b
+      (entered l e (0x200 + DATA_CMD) (queue_word q t.operation.len t.operation.send_stop t.operation.restart)) b
   unfolding next_at next_round store_at store_round step_of step_round queued
   word_queued g more room =
       let some : eqb left 0 ≡ false = ne_eqb left 0 (λ (z : left ≡ 0). omega (arith, more, z)) in
@@ -80,7 +80,7 @@ module _ {t : Transfer} {queue words : ℕ} {before : Recording} where
       → words ≤ queue
       → before.entries + words ≤ length before.log.now / 2
       → length before.log.now < 2 ^ 64
-      → w ≡ queue_word (queue - n) t.len t.send_stop t.restart
+      → w ≡ queue_word (queue - n) t.operation.len t.operation.send_stop t.operation.restart
       → Enters mid (0x200 + DATA_CMD) w after
       → Queueing t queue words before (n + 1) after
   one_queued {mid} {after} {n} {w} g more enough room fits ew x =

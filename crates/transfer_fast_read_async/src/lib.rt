@@ -25,7 +25,12 @@ fn queue_words(t: Transfer, queue: u16, words: u16, recording: &mut Recording)
     ensures { Queued t queue words recording.old recording.new }
 {
     for n in 0..words {
-        let w = word_of_queue(queue - n, t.len, t.send_stop, t.restart);
+        let w = word_of_queue(
+            queue - n,
+            t.operation.len,
+            t.operation.send_stop,
+            t.operation.restart,
+        );
         recording.put_write(regs::DATA_CMD, w);
     }
 }
@@ -40,13 +45,13 @@ fn fetch_bytes(
 )
     requires { (0 < count)
         × (0 < remaining)
-        × (remaining + count ≤ t.len)
-        × (t.at + t.len ≤ length buffer.old + 1)
+        × (remaining + count ≤ t.operation.len)
+        × (t.operation.at + t.operation.len ≤ length buffer.old + 1)
         × (recording.old.used + count ≤ length recording.old.readings.now)
         × (recording.old.entries + count ≤ room_of recording.old) }
     ensures { Fetched t remaining count recording.old buffer.old recording.new buffer.new }
 {
-    let first = t.at + usize::from(t.len - remaining - count);
+    let first = t.operation.at + usize::from(t.operation.len - remaining - count);
     for n in 0..count {
         buffer[first + usize::from(n)] = byte_of(read(recording, regs::DATA_CMD));
     }
@@ -94,8 +99,8 @@ fn one_round(
     buffer: &mut [u8],
 ) -> Round
     requires { StraightRound recording.old round plan.words plan.count
-        × (round.remaining ≤ t.len)
-        × (t.at + t.len ≤ length buffer.old + 1) }
+        × (round.remaining ≤ t.operation.len)
+        × (t.operation.at + t.operation.len ≤ length buffer.old + 1) }
     ensures is { result ≡ after_round round plan.words plan.count }
     ensures bursts { ForAny
         (λ (bytes : List ℕ). Bursts t bytes recording.old buffer.old (ReadAsync (Capacity round))
@@ -117,8 +122,8 @@ fn one_round(
 
 // Round after round, up to the one that is next; the last one is the machine's.
 fn run(t: Transfer, from: Round, recording: &mut Recording, buffer: &mut [u8]) -> Round
-    requires { (from.remaining ≤ t.len)
-        × (t.at + t.len ≤ length buffer.old + 1)
+    requires { (from.remaining ≤ t.operation.len)
+        × (t.operation.at + t.operation.len ≤ length buffer.old + 1)
         × (recording.old.entries ≤ room_of recording.old) }
     ensures { ForAny
         (λ (bytes : List ℕ). Bursts t bytes recording.old buffer.old (ReadAsync (Capacity from))
@@ -138,7 +143,9 @@ pub fn burst(t: Transfer, from: Round, recording: &mut Recording, buffer: &mut [
         (λ (bytes : List ℕ). Bursts t bytes recording.old buffer.old (ReadAsync (Capacity from))
         recording.new buffer.new (ReadAsync (Capacity result))) }
 {
-    if from.remaining <= t.len && is_within(0, t.len, t.at, buffer.len()) {
+    if from.remaining <= t.operation.len
+        && is_within(0, t.operation.len, t.operation.at, buffer.len())
+    {
         run(t, from, recording, buffer)
     } else {
         from

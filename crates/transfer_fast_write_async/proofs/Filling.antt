@@ -38,20 +38,20 @@ module _ (coded : Bool) (kinds lengths bytes : List ℕ) {readings : List ℕ} (
     {e u : ℕ} {l b : List ℕ} where
   -- a byte and a place for it: the word is written
   pub word_written : Reaches (machine coded kinds lengths bytes) readings s₀ e₀ u₀ l₀ b₀
-      (moved_to coded kinds lengths t (filling t.len t.send_stop i left)) e u l b
-      → 0 < left → i < t.len → e < length l₀ / 2
+      (moved_to coded kinds lengths t (filling t.operation.len t.operation.send_stop i left)) e u l b
+      → 0 < left → i < t.operation.len → e < length l₀ / 2
       → Reaches (machine coded kinds lengths bytes) readings s₀ e₀ u₀ l₀ b₀
-      (moved_to coded kinds lengths t (filling t.len t.send_stop (i + 1) (left - 1))) (e + 1) u
-      (entered l e (0x200 + DATA_CMD) (fill_word (get_or bytes (t.at + i) 0) i t.len t.send_stop)) b
+      (moved_to coded kinds lengths t (filling t.operation.len t.operation.send_stop (i + 1) (left - 1))) (e + 1) u
+      (entered l e (0x200 + DATA_CMD) (fill_word (get_or bytes (t.operation.at + i) 0) i t.operation.len t.operation.send_stop)) b
   unfolding next_at next_fill store_at step_of step_fill filling after_index
   word_written g some before room =
       let p : Point = WriteAsync (Fill i left) in
       let at : Reaches (machine coded kinds lengths bytes) readings s₀ e₀ u₀ l₀ b₀ (with_point t p) e u l b =
-      rw (ne_eqb left 0 (λ (z : left ≡ 0). omega (arith, some, z)), lt-ltb i t.len before) at g in
+      rw (ne_eqb left 0 (λ (z : left ≡ 0). omega (arith, some, z)), lt-ltb i t.operation.len before) at g in
       let next : (machine coded kinds lengths bytes).advance (with_point t p) 0 ≡ moved_to coded kinds lengths t
-      (filling t.len t.send_stop (i + 1) (left - 1)) =
-      rw (lt-ltb i t.len before) (from_any_point coded kinds lengths t p (filling t.len t.send_stop (i + 1) (left - 1))) in
-      did_write at {r = DATA_CMD} {x = fill_word (get_or bytes (t.at + i) 0) i t.len t.send_stop} refl room next refl
+      (filling t.operation.len t.operation.send_stop (i + 1) (left - 1)) =
+      rw (lt-ltb i t.operation.len before) (from_any_point coded kinds lengths t p (filling t.operation.len t.operation.send_stop (i + 1) (left - 1))) in
+      did_write at {r = DATA_CMD} {x = fill_word (get_or bytes (t.operation.at + i) 0) i t.operation.len t.operation.send_stop} refl room next refl
 
 -- no place is left: TX_ABRT_SOURCE is next
 pub no_place : (len : ℕ) (send_stop : Bool) (i : ℕ) → filling len send_stop i 0 ≡ go (Abort Source (Space i))
@@ -120,10 +120,10 @@ module _ {t : Transfer} {bytes : List ℕ} {from : ℕ} {before : Recording} whe
 
   pub one_filled : {mid after : Recording} {n w : ℕ}
       → Filled t bytes from n before mid
-      → from + n < t.len
+      → from + n < t.operation.len
       → before.entries + n < length before.log.now / 2
       → length before.log.now < 2 ^ 64
-      → w ≡ fill_word (get_or bytes (t.at + (from + n)) 0) (from + n) t.len t.send_stop
+      → w ≡ fill_word (get_or bytes (t.operation.at + (from + n)) 0) (from + n) t.operation.len t.operation.send_stop
       → Enters mid (0x200 + DATA_CMD) w after
       → Filled t bytes from (n + 1) before after
   one_filled {mid} {after} {n} {w} g more room fits ew x =

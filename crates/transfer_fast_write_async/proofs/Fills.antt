@@ -36,15 +36,15 @@ module _ (coded : Bool) (kinds lengths bytes : List ℕ) {readings : List ℕ} (
       → 0 < space
       → space ≡ 16 - level (get_or readings u 0) → e < length l₀ / 2 → u < length readings
       → Reaches (machine coded kinds lengths bytes) readings s₀ e₀ u₀ l₀ b₀
-      (moved_to coded kinds lengths t (filling t.len t.send_stop i space)) (e + 1) (u + 1)
+      (moved_to coded kinds lengths t (filling t.operation.len t.operation.send_stop i space)) (e + 1) (u + 1)
       (entered l e (0x100 + TXFLR) (get_or readings u 0)) b
   unfolding next_at next_fill store_at step_of step_fill free_step places
   counted space g some is room left =
       let n = level (get_or readings u 0) in
       let p = WriteAsync (Free i) in
       let a : (machine coded kinds lengths bytes).advance (with_point t p) (get_or readings u 0) ≡ moved_to coded kinds lengths t
-      (filling t.len t.send_stop i space) =
-      rw (le-ltb 16 n (omega (arith, some, is)), ← is) (from_any_point coded kinds lengths t p (filling t.len t.send_stop i space)) in
+      (filling t.operation.len t.operation.send_stop i space) =
+      rw (le-ltb 16 n (omega (arith, some, is)), ← is) (from_any_point coded kinds lengths t p (filling t.operation.len t.operation.send_stop i space)) in
       did_read g refl room left a refl refl
 
   -- TX_ABRT_SOURCE and TXFLR
@@ -76,9 +76,9 @@ has_room {i = i} {len} {space} s j in_places in_bytes =
 
 -- a round up to a place: TXFLR is read, and places are filled
 module _ {t : Transfer} {bytes : List ℕ} {i space count : ℕ} {r r₁ r₂ : Recording} {v : ℕ}
-    (s : StraightFill r i t.len space) (fits : length r.log.now < 2 ^ 64) (e : Reads r TXFLR v r₁)
-    (within : i ≤ t.len) (few : count ≤ space) (f : Filled t bytes i count r₁ r₂) where
-  up_to : Leads t bytes r (go (WriteAsync (Free i))) r₂ (filling t.len t.send_stop (i + count) (space - count))
+    (s : StraightFill r i t.operation.len space) (fits : length r.log.now < 2 ^ 64) (e : Reads r TXFLR v r₁)
+    (within : i ≤ t.operation.len) (few : count ≤ space) (f : Filled t bytes i count r₁ r₂) where
+  up_to : Leads t bytes r (go (WriteAsync (Free i))) r₂ (filling t.operation.len t.operation.send_stop (i + count) (space - count))
   up_to =
       let room : r.entries + 1 ≤ length r.log.now / 2 = omega (arith, has_room s 0 (omega arith) (omega (arith, within))) in
       lead_after
@@ -89,15 +89,15 @@ module _ {t : Transfer} {bytes : List ℕ} {i space count : ℕ} {r r₁ r₂ : 
       (f.leads space few)
 
   -- the bytes have ended, and a place is left
-  pub last_round : {x : Option Point} → count < space → i + count ≡ t.len → wait_stop t.send_stop (Ok tt) ≡ Ok x
+  pub last_round : {x : Option Point} → count < space → i + count ≡ t.operation.len → wait_stop t.operation.send_stop (Ok tt) ≡ Ok x
       → Leads t bytes r (go (WriteAsync (Free i))) r₂ (Ok x)
   last_round {x} more ended ex =
-      let is : filling t.len t.send_stop (i + count) (space - count) ≡ Ok x =
-      no_byte t.len t.send_stop (i + count) (space - count) ended (omega (arith, more)) ∙ ex in
+      let is : filling t.operation.len t.operation.send_stop (i + count) (space - count) ≡ Ok x =
+      no_byte t.operation.len t.operation.send_stop (i + count) (space - count) ended (omega (arith, more)) ∙ ex in
       rw is at up_to
 
   -- every place is filled, and a poll leads to the next round
-  pub one_round : {r₃ r₄ : Recording} {v₃ v₄ : ℕ} → space ≤ count → i + count ≤ t.len
+  pub one_round : {r₃ r₄ : Recording} {v₃ v₄ : ℕ} → space ≤ count → i + count ≤ t.operation.len
       → Reads r₂ TX_ABRT_SOURCE v₃ r₃
       → Reads r₃ TXFLR v₄ r₄
       → Leads t bytes r (go (WriteAsync (Free i))) r₄ (go (WriteAsync (Free (i + count))))
@@ -109,7 +109,7 @@ module _ {t : Transfer} {bytes : List ℕ} {i space count : ℕ} {r r₁ r₂ : 
       let size : length r₂.log.now ≡ length r.log.now = f.keeps.size ∙ e.keeps.size in
       let room : r₂.entries + 2 ≤ length r₂.log.now / 2 = rw size (omega (arith, p.1, f.entries, e.entries, few)) in
       let polls : Polls r₂.readings.now r₂.used = rw (same, u₂) p.0 in
-      lead_after (rw (none, no_place t.len t.send_stop (i + count)) at up_to)
+      lead_after (rw (none, no_place t.operation.len t.operation.send_stop (i + count)) at up_to)
       (lead_of (keeps_on e₃.keeps e₄.keeps) (omega (arith, e₃.entries, e₄.entries)) (omega (arith, e₃.used, e₄.used))
       (rw (e₃.log, e₃.entries, e₃.value, e₄.value, e₃.keeps.readings, e₃.used) at e₄.log) room
       (λ coded kinds lengths b. polled coded kinds lengths bytes t (i + count)

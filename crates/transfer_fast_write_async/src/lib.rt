@@ -70,15 +70,20 @@ fn byte_at(last: bool, bytes: &[u8], at: usize, i: u16) -> u8
 // Fills so many places. The loop for a round that is not the last is
 // compiled without the tests for the last byte, which it does not reach.
 fn fill(t: Transfer, from: u16, count: u16, last: bool, bytes: &[u8], recording: &mut Recording)
-    requires { (from + count ≤ t.len)
-        × (last ≡ false → from + count < t.len)
-        × (t.at + t.len ≤ length bytes.now + 1)
+    requires { (from + count ≤ t.operation.len)
+        × (last ≡ false → from + count < t.operation.len)
+        × (t.operation.at + t.operation.len ≤ length bytes.now + 1)
         × (recording.old.entries + count ≤ room_of recording.old) }
     ensures { Filled t bytes.now from count recording.old recording.new }
 {
     for n in 0..count {
         let i = from + n;
-        let w = word_of_fill(byte_at(last, bytes, t.at, i), i, t.len, t.send_stop & last);
+        let w = word_of_fill(
+            byte_at(last, bytes, t.operation.at, i),
+            i,
+            t.operation.len,
+            t.operation.send_stop & last,
+        );
         recording.put_write(regs::DATA_CMD, w);
     }
 }
@@ -86,19 +91,19 @@ fn fill(t: Transfer, from: u16, count: u16, last: bool, bytes: &[u8], recording:
 // Round after round, until the bytes end or a round does not lead straight on. A place
 // without a byte ends the rounds: the operation waits for its STOP, or is done, and the next one comes.
 fn run(t: Transfer, from: u16, bytes: &[u8], recording: &mut Recording) -> Option<Point>
-    requires { (from ≤ t.len)
-        × (t.at + t.len ≤ length bytes.now + 1)
+    requires { (from ≤ t.operation.len)
+        × (t.operation.at + t.operation.len ≤ length bytes.now + 1)
         × (recording.old.entries ≤ room_of recording.old) }
     ensures { Leads t bytes.now recording.old (go (WriteAsync (Free from))) recording.new (Ok result) }
 {
     let mut i = from;
-    while let Some(space) = planned(i, t.len, recording) {
-        let rest = t.len - i;
+    while let Some(space) = planned(i, t.operation.len, recording) {
+        let rest = t.operation.len - i;
         let count = space.min(rest);
         let _free = read(recording, regs::TXFLR);
         fill(t, i, count, rest <= space, bytes, recording);
         if count < space {
-            return wait_for_stop(t.send_stop, Ok(()));
+            return wait_for_stop(t.operation.send_stop, Ok(()));
         }
         let _source = read(recording, regs::TX_ABRT_SOURCE);
         let _again = read(recording, regs::TXFLR);
@@ -113,7 +118,7 @@ pub fn burst(t: Transfer, from: u16, bytes: &[u8], recording: &mut Recording) ->
     requires { recording.old.entries ≤ room_of recording.old }
     ensures { Leads t bytes.now recording.old (go (WriteAsync (Free from))) recording.new (Ok result) }
 {
-    if from <= t.len && is_within(0, t.len, t.at, bytes.len()) {
+    if from <= t.operation.len && is_within(0, t.operation.len, t.operation.at, bytes.len()) {
         run(t, from, bytes, recording)
     } else {
         Some(Point::WriteAsync(FillPoint::Free(from)))

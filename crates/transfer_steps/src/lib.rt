@@ -2,51 +2,30 @@
 // then `advance` until `next_access` of `transfer_access` tells the answer.
 #![tactic(auto)]
 
-ghost use Rattle.std.specs.Prelude.{◌≡◌, get_or};
-ghost use Rattle.transfer.specs.Inner.Points.{with_point};
-ghost use Rattle.transfer.specs.Inner.Machine.{write_point, read_point, opened_write, opened_read, opened};
+ghost use Rattle.std.specs.Prelude.{◌≡◌};
+ghost use Rattle.transfer.specs.Inner.Machine.{write_point, read_point, opened};
 ghost use Rattle.transfer.specs.Inner.Machine.{longer_length, length_for, begun};
 ghost use Rattle.transfer.specs.Inner.Machine.{moved_to, advance_of, tested_point, first_point, started};
 
 use regs::answers::{Answer, Refusal};
 use transfer::counts::sum;
 use transfer::{
-    FillPoint, Mode, Point, ReadPoint, Round, RoundPoint, SetupPoint, Step, Transfer, WritePoint,
+    FillPoint, Mode, Operation, Point, ReadPoint, Round, RoundPoint, SetupPoint, Step, Transfer,
+    WritePoint,
 };
 use transfer_after::step_of;
-
-fn kind_at(kinds: &[u8], k: usize) -> u8
-    ensures { result ≡ get_or kinds.now k 0 }
-{
-    if k < kinds.len() { kinds[k] } else { 0 }
-}
-
-fn length_at(lengths: &[u16], k: usize) -> u16
-    ensures { result ≡ get_or lengths.now k 0 }
-{
-    if k < lengths.len() { lengths[k] } else { 0 }
-}
 
 // Where a packet error code goes with the transfer, an empty write is refused in both modes.
 #[tactic(auto, unfolding(transfer::specs::Inner::Machine::write_point))]
 fn first_of_write(mode: Mode, coded: bool, len: u16) -> Point
     ensures { result ≡ write_point coded mode len }
 {
+    let refused = Point::Finished(Answer::Refused(Refusal::InvalidWriteBufferLength));
     match mode {
-        Mode::Blocking => {
-            if len == 0 {
-                Point::Finished(Answer::Refused(Refusal::InvalidWriteBufferLength))
-            } else {
-                Point::WriteBlocking(WritePoint::Send(0))
-            }
-        }
-        Mode::Async => {
-            if coded & (len == 0) {
-                Point::Finished(Answer::Refused(Refusal::InvalidWriteBufferLength))
-            } else {
-                Point::WriteAsync(FillPoint::Free(0))
-            }
-        }
+        Mode::Blocking if len == 0 => refused,
+        Mode::Async if coded && len == 0 => refused,
+        Mode::Blocking => Point::WriteBlocking(WritePoint::Send(0)),
+        Mode::Async => Point::WriteAsync(FillPoint::Free(0)),
     }
 }
 
@@ -67,72 +46,36 @@ fn first_of_read(mode: Mode, len: u16) -> Point
     }
 }
 
-#[tactic(auto, unfolding(transfer::specs::Inner::Machine::opened_write))]
-fn open_write(t: Transfer, coded: bool, n: usize, len: u16, last: bool) -> Transfer
-    ensures { result ≡ opened_write coded t n len last }
-{
-    let mode = t.mode;
-    let start = t.writes;
-    Transfer {
-        point: first_of_write(mode, coded, len),
-        mode,
-        restart: t.restart,
-        send_stop: last,
-        address: t.address,
-        len,
-        at: start,
-        begun: n,
-        reads: t.reads,
-        writes: sum(start, len),
-    }
-}
-
-#[tactic(auto, unfolding(transfer::specs::Inner::Machine::opened_read))]
-fn open_read(t: Transfer, n: usize, len: u16, last: bool) -> Transfer
-    ensures { result ≡ opened_read t n len last }
-{
-    let mode = t.mode;
-    let start = t.reads;
-    Transfer {
-        point: first_of_read(mode, len),
-        mode,
-        restart: t.restart,
-        send_stop: last,
-        address: t.address,
-        len,
-        at: start,
-        begun: n,
-        reads: sum(start, len),
-        writes: t.writes,
-    }
-}
-
-#[tactic(auto, unfolding(transfer::specs::Inner::Machine::opened))]
+// The n-th operation, of this kind and length.
+#[tactic(auto, unfolding(transfer::specs::Inner::Machine::opened, transfer::specs::Inner::Machine::opened_write, transfer::specs::Inner::Machine::opened_read))]
 fn open(t: Transfer, coded: bool, n: usize, kind: u8, len: u16, last: bool) -> Transfer
     ensures { result ≡ opened coded t n kind len last }
 {
-    if kind == 1 {
-        open_write(t, coded, n, len, last)
+    let write = kind == 1;
+    let at = if write { t.writes } else { t.reads };
+    let opened = Transfer {
+        operation: Operation {
+            at,
+            len,
+            send_stop: last,
+            ..t.operation
+        },
+        begun: n,
+        ..t
+    };
+    let end = sum(at, len);
+    if write {
+        Transfer {
+            point: first_of_write(t.mode, coded, len),
+            writes: end,
+            ..opened
+        }
     } else {
-        open_read(t, n, len, last)
-    }
-}
-
-fn at_point(t: Transfer, p: Point) -> Transfer
-    ensures { result ≡ with_point t p }
-{
-    let mode = t.mode;
-    Transfer {
-        point: p,
-        mode,
-        restart: t.restart,
-        send_stop: t.send_stop,
-        address: t.address,
-        len: t.len,
-        at: t.at,
-        begun: t.begun,
-        reads: t.reads,
-        writes: t.writes,
+        Transfer {
+            point: first_of_read(t.mode, len),
+            reads: end,
+            ..opened
+        }
     }
 }
 
@@ -142,10 +85,7 @@ fn at_point(t: Transfer, p: Point) -> Transfer
 fn one_longer(len: u16) -> u16
     ensures { result ≡ longer_length len }
 {
-    if len == 0 {
-        return len;
-    }
-    if len < 65535 { len + 1 } else { len }
+    if len == 0 { 0 } else { len.saturating_add(1) }
 }
 
 // The last operation has a place for the packet error code.
@@ -166,10 +106,17 @@ fn begin(t: Transfer, coded: bool, kinds: &[u8], lengths: &[u16]) -> Transfer
     if k < all {
         let n = k + 1;
         let last = n == all;
-        let len = length_for_code(coded, last, length_at(lengths, k));
-        open(t, coded, n, kind_at(kinds, k), len, last)
+        let len = lengths.get(k).copied().unwrap_or(0);
+        open(
+            t,
+            coded,
+            n,
+            kinds[k],
+            length_for_code(coded, last, len),
+            last,
+        )
     } else {
-        at_point(t, Point::Finished(Answer::Accepted))
+        t.at_point(Point::Finished(Answer::Accepted))
     }
 }
 
@@ -178,9 +125,9 @@ pub fn moved(t: Transfer, s: Step, coded: bool, kinds: &[u8], lengths: &[u16]) -
     ensures { result ≡ moved_to coded kinds.now lengths.now t s }
 {
     match s {
-        Ok(Some(p)) => at_point(t, p),
+        Ok(Some(p)) => t.at_point(p),
         Ok(None) => begin(t, coded, kinds, lengths),
-        Err(r) => at_point(t, Point::Finished(Answer::Refused(r))),
+        Err(r) => t.at_point(Point::Finished(Answer::Refused(r))),
     }
 }
 
@@ -188,9 +135,8 @@ pub fn moved(t: Transfer, s: Step, coded: bool, kinds: &[u8], lengths: &[u16]) -
 pub fn advance(t: Transfer, v: u32, coded: bool, kinds: &[u8], lengths: &[u16]) -> Transfer
     ensures { result ≡ advance_of coded kinds.now lengths.now t v }
 {
-    let p = t.point;
-    let s = step_of(t.len, t.send_stop, p, v);
-    moved(t, s, coded, kinds, lengths)
+    let step = step_of(t.operation, t.point, v);
+    moved(t, step, coded, kinds, lengths)
 }
 
 // The address is tested, then the block is disabled.
@@ -212,12 +158,8 @@ fn first_of(mode: Mode, address: u16, none: bool) -> Point
     ensures { result ≡ first_point mode address none }
 {
     match mode {
-        Mode::Blocking => tested(address),
-        Mode::Async => if none {
-            Point::Finished(Answer::Accepted)
-        } else {
-            tested(address)
-        },
+        Mode::Async if none => Point::Finished(Answer::Accepted),
+        Mode::Blocking | Mode::Async => tested(address),
     }
 }
 
@@ -226,14 +168,17 @@ fn first_of(mode: Mode, address: u16, none: bool) -> Point
 pub fn start(mode: Mode, restart: bool, address: u16, kinds: &[u8]) -> Transfer
     ensures { result ≡ started mode restart address kinds.now }
 {
-    Transfer {
-        point: first_of(mode, address, kinds.len() == 0),
-        mode,
+    let operation = Operation {
+        at: 0,
+        len: 0,
         restart,
         send_stop: false,
+    };
+    Transfer {
+        point: first_of(mode, address, kinds.is_empty()),
+        mode,
         address,
-        len: 0,
-        at: 0,
+        operation,
         begun: 0,
         reads: 0,
         writes: 0,

@@ -71,11 +71,11 @@ full_kept e = mod-eq_of_lt e.1 ∙ e.0
 -- words into which a transfer was put
 pub record Written (t : Transfer) (s : List ℕ) : Type 0 where
   pub place : place_in s ≡ place_of t.point
-  pub form : get_or s 12 0 ≡ form_of t.mode t.restart
-  pub stop : flag_of (get_or s 13 0) ≡ t.send_stop
+  pub form : get_or s 12 0 ≡ form_of t.mode t.operation.restart
+  pub stop : flag_of (get_or s 13 0) ≡ t.operation.send_stop
   pub address : half_of (get_or s 14 0) ≡ t.address
-  pub len : half_of (get_or s 15 0) ≡ t.len
-  pub at : get_or s 16 0 ≡ t.at
+  pub len : half_of (get_or s 15 0) ≡ t.operation.len
+  pub at : get_or s 16 0 ≡ t.operation.at
   pub begun : get_or s 17 0 ≡ t.begun
   pub reads : get_or s 18 0 ≡ t.reads
   pub writes : get_or s 19 0 ≡ t.writes

@@ -4,9 +4,9 @@
 
 ghost use Rattle.std.specs.Prelude.{◌≡◌, not, ◌<◌, ◌%◌, ◌^◌, eqb, ltb, length, get_or};
 ghost use Rattle.words_points.specs.Held.{held_of};
-ghost use Rattle.words.specs.Inner.Words.{mode_at, form_of, who_in, place_in, transfer_in, held_at};
+ghost use Rattle.words.specs.Inner.Words.{mode_at, form_of, who_in, place_in, operation_in, transfer_in, held_at};
 
-use transfer::{Mode, Transfer};
+use transfer::{Mode, Operation, Point, Transfer};
 use words_points::{Failure, Place, Who};
 
 // The point: group and row, a word, who waits, the byte, the
@@ -124,12 +124,14 @@ pub fn at_of(w: u64) -> usize
 }
 
 // The mode that `queued` tells.
+#[tactic(auto, unfolding(crate::specs::Inner::Words::mode_at))]
 pub fn mode(queued: bool) -> Mode
     ensures { result ≡ mode_at queued }
 {
     if queued { Mode::Async } else { Mode::Blocking }
 }
 
+#[tactic(auto, unfolding(crate::specs::Inner::Words::form_of))]
 fn form(m: Mode, restart: bool) -> u64
     ensures { result ≡ form_of m restart }
 {
@@ -146,6 +148,7 @@ pub fn ended(words: &[u64; 20]) -> bool
     7 < words[GROUP]
 }
 
+#[tactic(auto, unfolding(crate::specs::Inner::Words::who_in))]
 pub fn who_from(words: &[u64; 20]) -> Who
     ensures { result ≡ who_in words.now }
 {
@@ -166,6 +169,7 @@ pub fn who_from(words: &[u64; 20]) -> Who
 }
 
 // The place that words stand for.
+#[tactic(auto, unfolding(crate::specs::Inner::Words::place_in))]
 pub fn place_from(words: &[u64; 20]) -> Place
     ensures { result ≡ place_in words.now }
 {
@@ -178,20 +182,28 @@ pub fn place_from(words: &[u64; 20]) -> Place
     }
 }
 
+// The operation that words stand for.
+pub fn operation_from(words: &[u64; 20]) -> Operation
+    ensures { result ≡ operation_in words.now }
+{
+    Operation {
+        at: at_of(words[AT]),
+        len: half(words[LEN]),
+        restart: 1 < words[FORM],
+        send_stop: flag(words[SEND_STOP]),
+    }
+}
+
 // The transfer that words stand for, of one that has not ended.
+#[tactic(auto, unfolding(crate::specs::Inner::Words::transfer_in))]
 pub fn transfer_from(words: &[u64; 20]) -> Transfer
     ensures { result ≡ transfer_in words.now }
 {
-    let place = place_from(words);
-    let form = words[FORM];
     Transfer {
-        point: words_points::points::point(place),
-        mode: mode(form % 2 == 1),
-        restart: 1 < form,
-        send_stop: flag(words[SEND_STOP]),
+        point: Point::from(place_from(words)),
+        mode: mode(words[FORM] % 2 == 1),
         address: half(words[ADDRESS]),
-        len: half(words[LEN]),
-        at: at_of(words[AT]),
+        operation: operation_from(words),
         begun: at_of(words[BEGUN]),
         reads: at_of(words[READS]),
         writes: at_of(words[WRITES]),
@@ -203,9 +215,8 @@ pub fn put(words: &mut [u64; 20], t: Transfer)
     ensures { held_at words.new ≡ held_of t }
 {
     sized(words);
-    let p = t.point;
-    let m = t.mode;
-    let place = words_points::rows::place(p);
+    let operation = t.operation;
+    let place = Place::from(t.point);
     let who = place.who;
     let failure = who.failure;
     words[GROUP] = place.group;
@@ -220,11 +231,11 @@ pub fn put(words: &mut [u64; 20], t: Transfer)
     words[FAILURE] = failure.kind;
     words[FAILURE_COUNT] = wide16(failure.count);
     words[FAILURE_WORD] = wide32(failure.word);
-    words[FORM] = form(m, t.restart);
-    words[SEND_STOP] = bit(t.send_stop);
+    words[FORM] = form(t.mode, operation.restart);
+    words[SEND_STOP] = bit(operation.send_stop);
     words[ADDRESS] = wide16(t.address);
-    words[LEN] = wide16(t.len);
-    words[AT] = long(t.at);
+    words[LEN] = wide16(operation.len);
+    words[AT] = long(operation.at);
     words[BEGUN] = long(t.begun);
     words[READS] = long(t.reads);
     words[WRITES] = long(t.writes);

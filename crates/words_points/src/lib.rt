@@ -5,8 +5,6 @@
 pub mod points; // numbers as points
 pub mod rows; // points as numbers
 
-ghost use Rattle.std.specs.Prelude.{◌≡◌};
-
 // `Result<(), Error>`: 0 fine, 1 NoAcknowledge, 2 ArbitrationLoss,
 // 3 TxNotEmpty with the count, 5 DataNotAcknowledged with the word,
 // any other Other with the word.
@@ -39,10 +37,4 @@ pub struct Place {
     pub row: u64,
     pub word: u32,
     pub who: Who,
-}
-
-fn wide8(n: u8) -> u64
-    ensures { result ≡ n }
-{
-    n as u64
 }

@@ -12,206 +12,182 @@ use transfer::{
     StopPoint, Tried, WaitPoint, WritePoint,
 };
 
-fn reason_of(f: Failure) -> AbortReason
-    ensures { result ≡ reason_at f }
-{
-    if f.kind == 1 {
-        return AbortReason::NoAcknowledge;
-    }
-    if f.kind == 2 {
-        return AbortReason::ArbitrationLoss;
-    }
-    if f.kind == 3 {
-        return AbortReason::TxNotEmpty(f.count);
-    }
-    if f.kind == 5 {
-        return AbortReason::DataNotAcknowledged(f.word);
-    }
-    AbortReason::Other(f.word)
-}
+impl From<Failure> for AbortReason {
+    ghost from_gives = { λ f r. r ≡ reason_at f };
 
-fn tried_of(f: Failure) -> Tried
-    ensures { result ≡ tried_at f }
-{
-    if f.kind == 0 {
-        return Ok(());
-    }
-    Err(reason_of(f))
-}
-
-fn round_of(w: Who) -> Round
-    ensures { result ≡ round_at w }
-{
-    Round {
-        remaining: w.remaining,
-        queue: w.queue,
-        batch: w.batch,
+    #[tactic(auto, unfolding(crate::specs::Inner::Numbers::reason_at))]
+    fn from(f: Failure) -> Self {
+        match f.kind {
+            1 => AbortReason::NoAcknowledge,
+            2 => AbortReason::ArbitrationLoss,
+            3 => AbortReason::TxNotEmpty(f.count),
+            5 => AbortReason::DataNotAcknowledged(f.word),
+            _ => AbortReason::Other(f.word),
+        }
     }
 }
 
-fn caller_of(w: Who) -> Caller
-    ensures { result ≡ caller_at w }
-{
-    if w.kind == 0 {
-        return Caller::Read(w.index);
+impl From<Failure> for Tried {
+    ghost from_gives = { λ f r. r ≡ tried_at f };
+
+    #[tactic(auto, unfolding(crate::specs::Inner::Numbers::tried_at))]
+    fn from(f: Failure) -> Self {
+        if f.kind == 0 {
+            Ok(())
+        } else {
+            Err(AbortReason::from(f))
+        }
     }
-    if w.kind == 1 {
-        return Caller::Write(w.index);
-    }
-    if w.kind == 2 {
-        return Caller::Batch(round_of(w), w.count);
-    }
-    if w.kind == 3 {
-        return Caller::Space(w.index);
-    }
-    let f = w.failure;
-    Caller::Stop(tried_of(f))
 }
 
-fn poll_of(w: Who) -> Poll
-    ensures { result ≡ poll_at w }
-{
-    if w.kind == 2 {
-        return Poll::Batch(round_of(w));
+impl From<Who> for Round {
+    ghost from_gives = { λ w r. r ≡ round_at w };
+
+    #[tactic(auto, unfolding(crate::specs::Inner::Numbers::round_at))]
+    fn from(w: Who) -> Self {
+        Round {
+            remaining: w.remaining,
+            queue: w.queue,
+            batch: w.batch,
+        }
     }
-    if w.kind == 3 {
-        return Poll::Space(w.index);
-    }
-    let f = w.failure;
-    Poll::Stop(tried_of(f))
 }
 
+impl From<Who> for Caller {
+    ghost from_gives = { λ w r. r ≡ caller_at w };
+
+    #[tactic(auto, unfolding(crate::specs::Inner::Numbers::caller_at))]
+    fn from(w: Who) -> Self {
+        match w.kind {
+            0 => Caller::Read(w.index),
+            1 => Caller::Write(w.index),
+            2 => Caller::Batch(Round::from(w), w.count),
+            3 => Caller::Space(w.index),
+            _ => Caller::Stop(Tried::from(w.failure)),
+        }
+    }
+}
+
+impl From<Who> for Poll {
+    ghost from_gives = { λ w r. r ≡ poll_at w };
+
+    #[tactic(auto, unfolding(crate::specs::Inner::Numbers::poll_at))]
+    fn from(w: Who) -> Self {
+        match w.kind {
+            2 => Poll::Batch(Round::from(w)),
+            3 => Poll::Space(w.index),
+            _ => Poll::Stop(Tried::from(w.failure)),
+        }
+    }
+}
+
+#[tactic(auto, unfolding(crate::specs::Inner::Numbers::setup_at))]
 pub fn setup_of(row: u64) -> SetupPoint
     ensures { result ≡ setup_at row }
 {
-    if row == 0 {
-        return SetupPoint::Disable;
+    match row {
+        0 => SetupPoint::Disable,
+        1 => SetupPoint::Target,
+        _ => SetupPoint::Enable,
     }
-    if row == 1 {
-        return SetupPoint::Target;
-    }
-    SetupPoint::Enable
 }
 
+#[tactic(auto, unfolding(crate::specs::Inner::Numbers::abort_at))]
 pub fn abort_of(row: u64, word: u32) -> AbortPoint
     ensures { result ≡ abort_at row word }
 {
-    if row == 0 {
-        return AbortPoint::Source;
+    match row {
+        0 => AbortPoint::Source,
+        _ => AbortPoint::Clear(word),
     }
-    AbortPoint::Clear(word)
 }
 
+#[tactic(auto, unfolding(crate::specs::Inner::Numbers::read_at))]
 pub fn read_of(row: u64, i: u16) -> ReadPoint
     ensures { result ≡ read_at row i }
 {
-    if row == 0 {
-        return ReadPoint::Room(i);
+    match row {
+        0 => ReadPoint::Room(i),
+        1 => ReadPoint::Ask(i),
+        2 => ReadPoint::Level(i),
+        _ => ReadPoint::Take(i),
     }
-    if row == 1 {
-        return ReadPoint::Ask(i);
-    }
-    if row == 2 {
-        return ReadPoint::Level(i);
-    }
-    ReadPoint::Take(i)
 }
 
+#[tactic(auto, unfolding(crate::specs::Inner::Numbers::write_at))]
 pub fn write_of(row: u64, w: Who) -> WritePoint
     ensures { result ≡ write_at row w }
 {
-    if row == 0 {
-        return WritePoint::Send(w.index);
+    match row {
+        0 => WritePoint::Send(w.index),
+        1 => WritePoint::Empty(w.index),
+        _ => WritePoint::StopDet(Tried::from(w.failure)),
     }
-    if row == 1 {
-        return WritePoint::Empty(w.index);
-    }
-    let f = w.failure;
-    WritePoint::StopDet(tried_of(f))
 }
 
+#[tactic(auto, unfolding(crate::specs::Inner::Numbers::queue_at))]
 pub fn queue_of(row: u64, w: Who) -> RoundPoint
     ensures { result ≡ queue_at row w }
 {
-    if row == 0 {
-        return RoundPoint::Capacity(round_of(w));
+    let round = Round::from(w);
+    match row {
+        0 => RoundPoint::Capacity(round),
+        1 => RoundPoint::Queue(round, w.count),
+        2 => RoundPoint::Level(round),
+        _ => RoundPoint::Fetch(round, w.count),
     }
-    if row == 1 {
-        return RoundPoint::Queue(round_of(w), w.count);
-    }
-    if row == 2 {
-        return RoundPoint::Level(round_of(w));
-    }
-    RoundPoint::Fetch(round_of(w), w.count)
 }
 
+#[tactic(auto, unfolding(crate::specs::Inner::Numbers::fill_at))]
 pub fn fill_of(row: u64, i: u16, n: u16) -> FillPoint
     ensures { result ≡ fill_at row i n }
 {
-    if row == 0 {
-        return FillPoint::Free(i);
+    match row {
+        0 => FillPoint::Free(i),
+        1 => FillPoint::Fill(i, n),
+        _ => FillPoint::Full(i),
     }
-    if row == 1 {
-        return FillPoint::Fill(i, n);
-    }
-    FillPoint::Full(i)
 }
 
+#[tactic(auto, unfolding(crate::specs::Inner::Numbers::wait_at))]
 pub fn wait_of(row: u64, word: u32, w: Who) -> WaitPoint
     ensures { result ≡ wait_at row word w }
 {
-    if row == 0 {
-        return WaitPoint::RxTl(round_of(w));
+    match row {
+        0 => WaitPoint::RxTl(Round::from(w)),
+        1 => WaitPoint::TxTl(w.index),
+        2 => WaitPoint::Mask(Poll::from(w)),
+        3 => WaitPoint::SetMask(Poll::from(w), word),
+        _ => WaitPoint::Pending(Poll::from(w)),
     }
-    if row == 1 {
-        return WaitPoint::TxTl(w.index);
-    }
-    if row == 2 {
-        return WaitPoint::Mask(poll_of(w));
-    }
-    if row == 3 {
-        return WaitPoint::SetMask(poll_of(w), word);
-    }
-    WaitPoint::Pending(poll_of(w))
 }
 
+#[tactic(auto, unfolding(crate::specs::Inner::Numbers::stop_at))]
 pub fn stop_of(row: u64, f: Failure) -> StopPoint
     ensures { result ≡ stop_at row f }
 {
-    if row == 0 {
-        return StopPoint::Stat(tried_of(f));
+    match row {
+        0 => StopPoint::Stat(Tried::from(f)),
+        _ => StopPoint::Clear(Tried::from(f)),
     }
-    StopPoint::Clear(tried_of(f))
 }
 
-pub fn point(p: Place) -> Point
-    ensures { result ≡ point_at p }
-{
-    let w = p.who;
-    let f = w.failure;
-    if p.group == 0 {
-        return Point::Setup(setup_of(p.row));
+impl From<Place> for Point {
+    ghost from_gives = { λ p r. r ≡ point_at p };
+
+    #[tactic(auto, unfolding(crate::specs::Inner::Numbers::point_at))]
+    fn from(p: Place) -> Self {
+        let w = p.who;
+        match p.group {
+            0 => Point::Setup(setup_of(p.row)),
+            1 => Point::Abort(abort_of(p.row, p.word), Caller::from(w)),
+            2 => Point::ReadBlocking(read_of(p.row, w.index)),
+            3 => Point::WriteBlocking(write_of(p.row, w)),
+            4 => Point::ReadAsync(queue_of(p.row, w)),
+            5 => Point::WriteAsync(fill_of(p.row, w.index, w.count)),
+            6 => Point::Wait(wait_of(p.row, p.word, w)),
+            7 => Point::Stop(stop_of(p.row, w.failure)),
+            _ => Point::Finished(Answer::Accepted),
+        }
     }
-    if p.group == 1 {
-        return Point::Abort(abort_of(p.row, p.word), caller_of(w));
-    }
-    if p.group == 2 {
-        return Point::ReadBlocking(read_of(p.row, w.index));
-    }
-    if p.group == 3 {
-        return Point::WriteBlocking(write_of(p.row, w));
-    }
-    if p.group == 4 {
-        return Point::ReadAsync(queue_of(p.row, w));
-    }
-    if p.group == 5 {
-        return Point::WriteAsync(fill_of(p.row, w.index, w.count));
-    }
-    if p.group == 6 {
-        return Point::Wait(wait_of(p.row, p.word, w));
-    }
-    if p.group == 7 {
-        return Point::Stop(stop_of(p.row, f));
-    }
-    Point::Finished(Answer::Accepted)
 }

@@ -1,8 +1,7 @@
 -- `export_steps::refuse` meets its contract.
 use Rattle.export_steps.specs.Inner.Steps.{over_limits}
-use mathlib.Core.Path.{refl}
 use Rattle.export_steps.proofs.refuse.Goals as goal
 
 pub returns : goal.returns
 unfolding over_limits
-returns c = refl
+returns c = c.at_point.ensures

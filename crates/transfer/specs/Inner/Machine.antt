@@ -105,10 +105,10 @@ next_stop (S.Clear r) = N.Read CLR_STOP_DET
 unfoldable pub next_at : List ℕ → Transfer → Point → Next
 next_at bytes t (Setup p) = next_setup t.address p
 next_at bytes t (Abort p caller) = next_abort p
-next_at bytes t (ReadBlocking p) = next_read t.len t.send_stop t.restart p
-next_at bytes t (WriteBlocking p) = next_write bytes t.at t.len t.send_stop p
-next_at bytes t (ReadAsync p) = next_round t.len t.send_stop t.restart p
-next_at bytes t (WriteAsync p) = next_fill bytes t.at t.len t.send_stop p
+next_at bytes t (ReadBlocking p) = next_read t.operation.len t.operation.send_stop t.operation.restart p
+next_at bytes t (WriteBlocking p) = next_write bytes t.operation.at t.operation.len t.operation.send_stop p
+next_at bytes t (ReadAsync p) = next_round t.operation.len t.operation.send_stop t.operation.restart p
+next_at bytes t (WriteAsync p) = next_fill bytes t.operation.at t.operation.len t.operation.send_stop p
 next_at bytes t (Wait p) = next_wait p
 next_at bytes t (Stop p) = next_stop p
 next_at bytes t (Finished a) = N.Finished a
@@ -136,9 +136,9 @@ store_round at len (Q.Fetch round left) v = Some ((sum_of at (len - round.remain
 unfoldable pub store_at : Transfer → Point → ℕ → Store
 store_at t (Setup p) v = None
 store_at t (Abort p caller) v = None
-store_at t (ReadBlocking p) v = store_read t.at p v
+store_at t (ReadBlocking p) v = store_read t.operation.at p v
 store_at t (WriteBlocking p) v = None
-store_at t (ReadAsync p) v = store_round t.at t.len p v
+store_at t (ReadAsync p) v = store_round t.operation.at t.operation.len p v
 store_at t (WriteAsync p) v = None
 store_at t (Wait p) v = None
 store_at t (Stop p) v = None
@@ -341,12 +341,12 @@ read_point mode len = if len == 0 then Finished (Refused X.InvalidReadBufferLeng
 -- the transfer at its next operation, the n-th, of the kind and the length given; `last` where none follows
 unfoldable pub opened_write : Bool → Transfer → ℕ → ℕ → Bool → Transfer
 opened_write coded t n len last =
-    transfer_at (write_point coded t.mode len) t.mode t.restart last t.address len t.writes n t.reads
+    transfer_at (write_point coded t.mode len) t.mode t.operation.restart last t.address len t.writes n t.reads
     (sum_of t.writes len)
 
 unfoldable pub opened_read : Transfer → ℕ → ℕ → Bool → Transfer
 opened_read t n len last =
-    transfer_at (read_point t.mode len) t.mode t.restart last t.address len t.reads n
+    transfer_at (read_point t.mode len) t.mode t.operation.restart last t.address len t.reads n
     (sum_of t.reads len) t.writes
 
 unfoldable pub opened : Bool → Transfer → ℕ → ℕ → ℕ → Bool → Transfer
@@ -372,7 +372,7 @@ moved_to coded kinds lengths t (Ok None) = begun coded kinds lengths t
 moved_to coded kinds lengths t (Err r) = with_point t (Finished (Refused r))
 
 abbrev pub advance_of : Bool → List ℕ → List ℕ → Transfer → ℕ → Transfer
-advance_of coded kinds lengths t v = moved_to coded kinds lengths t (step_of t.len t.send_stop t.point v)
+advance_of coded kinds lengths t v = moved_to coded kinds lengths t (step_of t.operation.len t.operation.send_stop t.point v)
 
 -- a transfer before its first access
 unfoldable pub tested_point : ℕ → Point

@@ -8,17 +8,14 @@ use Rattle.transfer.specs.declared.Mode.TheVariants.{Blocking, Async}
 use Rattle.transfer.specs.declared.Point.{Point}
 use Rattle.transfer.specs.declared.Transfer.{Transfer}
 
--- a transfer by its fields, in the struct's order
+-- a transfer by its fields and those of its operation
 abbrev pub transfer_at : Point → Mode → Bool → Bool → ℕ → ℕ → ℕ → ℕ → ℕ → ℕ → Transfer
 transfer_at p mode restart send_stop address len at begun reads writes =
     record {
       point = p;
       mode = mode;
-      restart = restart;
-      send_stop = send_stop;
       address = address;
-      len = len;
-      at = at;
+      operation = record { at = at; len = len; restart = restart; send_stop = send_stop };
       begun = begun;
       reads = reads;
       writes = writes;
@@ -26,7 +23,7 @@ transfer_at p mode restart send_stop address len at begun reads writes =
 
 abbrev pub with_point : Transfer → Point → Transfer
 with_point t p =
-    transfer_at p t.mode t.restart t.send_stop t.address t.len t.at t.begun t.reads t.writes
+    transfer_at p t.mode t.operation.restart t.operation.send_stop t.address t.operation.len t.operation.at t.begun t.reads t.writes
 
 -- `Result<(), Error>`, where the Rust looks at it
 abbrev pub Tried : Type 0

@@ -13,7 +13,7 @@ invariant-loop-plan l =
     record {
       came : ForAny (λ (bytes : List ℕ). Bursts l.t bytes l.initial.recording l.initial.buffer (ReadAsync (Capacity l.fn.from))
           l.recording l.buffer (ReadAsync (Capacity l.round)));
-      within : l.round.remaining ≤ l.t.len;
+      within : l.round.remaining ≤ l.t.operation.len;
     }
 
 abbrev pub decreases-loop-plan : goal.decreases-loop-plan

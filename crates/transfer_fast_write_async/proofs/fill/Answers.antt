@@ -7,7 +7,7 @@ pub loop-n-preserved : goal.loop-n-preserved
 loop-n-preserved c =
     let t = c.args.t in
     let more = c.loop-n-test.true in
-    let word = same_word c.args.last t.send_stop c.byte_at.result (c.args.from + c.loop-n.n) t.len
+    let word = same_word c.args.last t.operation.send_stop c.byte_at.result (c.args.from + c.loop-n.n) t.operation.len
     (λ other. omega (arith, more, c.requires.1 other)) in
     one_filled c.loop-n.invariant (omega (arith, more, c.requires.0)) (omega (arith, more, c.requires.3)) (omega arith)
     (rw (← c.byte_at.ensures) (c.word_of_fill-w.ensures ∙ word)) c.put_write.ensures

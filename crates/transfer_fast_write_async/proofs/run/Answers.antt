@@ -8,7 +8,7 @@ use Rattle.transfer_fast_write_async.proofs.run.Goals as goal
 pub loop-space-preserved : goal.loop-space-preserved
 loop-space-preserved c =
     let g = c.loop-space.invariant in
-    let within : c.loop-space.i + c.min-count.result ≤ c.args.t.len = omega (arith, c.min-count.ensures, g.within) in
+    let within : c.loop-space.i + c.min-count.result ≤ c.args.t.operation.len = omega (arith, c.min-count.ensures, g.within) in
     record {
       came = lead_after g.came (one_round (c.in-Some.ensures) (omega arith) c.read-free.ensures g.within
           (omega (arith, c.min-count.ensures)) c.fill.ensures c.if-count-space.false within c.read-source.ensures

@@ -12,7 +12,7 @@ abbrev pub invariant-loop-space : goal.invariant-loop-space
 invariant-loop-space l =
     record {
       came : Leads l.t l.bytes l.initial.recording (go (WriteAsync (Free l.fn.from))) l.recording (go (WriteAsync (Free l.i)));
-      within : l.i ≤ l.t.len;
+      within : l.i ≤ l.t.operation.len;
     }
 
 abbrev pub decreases-loop-space : goal.decreases-loop-space

@@ -33,7 +33,7 @@ pub record Leads (t : Transfer) (bytes : List ℕ) (before : Recording) (s : Ste
 -- so many places are filled, of as many or more
 pub record Filled (t : Transfer) (bytes : List ℕ) (from count : ℕ) (before after : Recording) : Type 0 where
   pub leads : (space : ℕ) → count ≤ space
-      → Leads t bytes before (filling t.len t.send_stop from space) after (filling t.len t.send_stop (from + count) (space - count))
+      → Leads t bytes before (filling t.operation.len t.operation.send_stop from space) after (filling t.operation.len t.operation.send_stop (from + count) (space - count))
   pub keeps : Keeps before after
   pub entries : after.entries ≡ before.entries + count
   pub used : after.used ≡ before.used

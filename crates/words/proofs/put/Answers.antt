@@ -22,7 +22,7 @@ returns c = let h : length c.args.words.now ≡ 20 = c.sized.ensures in
         half_kept c.wide16-5.ensures,
         half_kept c.wide16-6.ensures,
         full_kept c.wide32-2.ensures,
-      ) c.place-place.ensures;
+      ) c.from-place.ensures;
       form = c.form.ensures;
       stop = c.bit.ensures;
       address = half_kept c.wide16-7.ensures;

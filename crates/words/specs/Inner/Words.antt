@@ -3,6 +3,7 @@
 use Rattle.std.specs.Prelude.{ℕ, ◌%◌, ◌^◌, Bool, true, false, not, List, eqb, ltb, get_or, if◌then◌else◌}
 use Rattle.transfer.specs.declared.Mode.{Mode}
 use Rattle.transfer.specs.declared.Mode.TheVariants.{Blocking, Async}
+use Rattle.transfer.specs.declared.Operation.{Operation}
 use Rattle.transfer.specs.declared.Transfer.{Transfer}
 use Rattle.words_points.specs.Held.{Held, Live, Over}
 use Rattle.words_points.specs.Inner.Numbers.{point_at}
@@ -45,16 +46,22 @@ who_in s =
 unfoldable pub place_in : List ℕ → Place
 place_in s = record { group = get_or s 0 0; row = get_or s 1 0; word = full_of (get_or s 2 0); who = who_in s }
 
+abbrev pub operation_in : List ℕ → Operation
+operation_in s =
+    record {
+      at = get_or s 16 0;
+      len = half_of (get_or s 15 0);
+      restart = ltb 1 (get_or s 12 0);
+      send_stop = flag_of (get_or s 13 0);
+    }
+
 unfoldable pub transfer_in : List ℕ → Transfer
 transfer_in s =
     record {
       point = point_at (place_in s);
       mode = mode_at (eqb (get_or s 12 0 % 2) 1);
-      restart = ltb 1 (get_or s 12 0);
-      send_stop = flag_of (get_or s 13 0);
       address = half_of (get_or s 14 0);
-      len = half_of (get_or s 15 0);
-      at = get_or s 16 0;
+      operation = operation_in s;
       begun = get_or s 17 0;
       reads = get_or s 18 0;
       writes = get_or s 19 0;

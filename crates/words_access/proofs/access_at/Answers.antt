@@ -1,22 +1,23 @@
--- `access_at`: the eight tests of the group decide; each arm is the contract of that group's function, whose
--- requires is the test taken, at these bytes. A group above 7 leaves every test, so `point_at` is `Finished
--- Accepted` (`ne_eqb`), as is the code's access.
+-- `access_at`: a group above 7 is none that has points, so `point_at` is `Finished Accepted`, as is the access.
 use borrow.Author.Tests.{ne_eqb}
+use native.Mathlib.Omega.{arith}
+use Prim.Native.Nat.{ℕ}
+use mathlib.Core.Path.{◌≡◌}
 use Rattle.transfer.specs.Inner.Machine.{next_at}
 use Rattle.words_points.specs.Inner.Numbers.{point_at}
 use Rattle.words.specs.Inner.Words.{place_in, transfer_in}
 use Rattle.words_access.proofs.access_at.Goals as goal
 
-pub returns : goal.returns
+pub returns-in_default : goal.returns-in_default
 unfolding next_at transfer_in point_at place_in
-returns c = simp (
+returns-in_default c = let group : ℕ = c.args.group in simp (
   c.requires.0,
-  ne_eqb _ _ c.if-group-eq0.false,
-  ne_eqb _ _ c.if-group-eq1.false,
-  ne_eqb _ _ c.if-group-eq2.false,
-  ne_eqb _ _ c.if-group-eq3.false,
-  ne_eqb _ _ c.if-group-eq4.false,
-  ne_eqb _ _ c.if-group-eq5.false,
-  ne_eqb _ _ c.if-group-eq6.false,
-  ne_eqb _ _ c.if-group-eq7.false,
+  ne_eqb group 0 (λ (e : group ≡ 0). omega arith),
+  ne_eqb group 1 (λ (e : group ≡ 1). omega arith),
+  ne_eqb group 2 (λ (e : group ≡ 2). omega arith),
+  ne_eqb group 3 (λ (e : group ≡ 3). omega arith),
+  ne_eqb group 4 (λ (e : group ≡ 4). omega arith),
+  ne_eqb group 5 (λ (e : group ≡ 5). omega arith),
+  ne_eqb group 6 (λ (e : group ≡ 6). omega arith),
+  ne_eqb group 7 (λ (e : group ≡ 7). omega arith),
 )

@@ -16,5 +16,5 @@ loop-i-preserved c = λ bytes. burst_after (c.loop-i.invariant bytes) (c.byte.en
 
 pub returns : goal.returns
 returns c = λ bytes.
-    let all : c.loop-i.i ≡ c.args.t.len - 1 = omega (arith, c.loop-i-test.false, c.loop-i.auto.i-end, c.requires.0) in
+    let all : c.loop-i.i ≡ c.args.t.operation.len - 1 = omega (arith, c.loop-i-test.false, c.loop-i.auto.i-end, c.requires.0) in
     rw (← all) (c.loop-i.invariant bytes)
