@@ -2,7 +2,7 @@
 // what is done to the lent buffer with it, and its entry in the log.
 ghost use Rattle.std.specs.Prelude.{◌≡◌, ◌+◌, ◌/◌, ◌<◌, ltb, length};
 ghost use Rattle.regs.specs.Log.{entry};
-ghost use Rattle.regs.specs.Inner.Machine.{head_of, value_of, taken, at_full, performed, log_after};
+ghost use Rattle.regs.specs.Inner.Machine.{head_of, value_of, taken, at_full};
 ghost use Rattle.regs.specs.Inner.Recording.{Enters, Performs, room_of};
 ghost use Rattle.regs.specs.Steps.{stored_in};
 
@@ -186,27 +186,6 @@ impl<'a> Recording<'a> {
         self.used = used;
         Ok(v)
     }
-}
-
-// The same with the four values of a recording apart.
-pub fn perform(
-    n: Next,
-    readings: &[u32],
-    used: usize,
-    log: &mut [u32],
-    entries: usize,
-) -> Result<(u32, usize), Reply>
-    ensures { (result ≡ performed readings.now used entries (length log.old / 2) n)
-        × (log.new ≡ log_after result log.old entries n) }
-{
-    let mut recording = Recording {
-        readings,
-        used,
-        log,
-        entries,
-    };
-    let v = recording.perform(n)?;
-    Ok((v, recording.used))
 }
 
 // Does to the lent buffer what is done with an access; an index past its end is no place.

@@ -1,6 +1,8 @@
-// The fields of the controller's words, put together and taken apart by shifts and masks.
+// The fields of the controller's words, put together and taken apart by shifts and masks. Each field keeps a
+// function of its own over `is_set` or `with_field`: with the bit as an argument in its place, as `is_set(w, 9)`,
+// a caller would name a number where it now names the field, and STOP and STOP_DET are both bit 9.
 ghost use Rattle.std.specs.Prelude.{◌≡◌, ◌+◌, ◌<◌, ◌≤◌, ◌^◌};
-ghost use Rattle.regs.specs.Fields.{b2n, bit, set_field, command_word, dat, cmd, stop, restart};
+ghost use Rattle.regs.specs.Fields.{bit, set_field, command_word, dat, cmd, stop, restart};
 ghost use Rattle.regs.specs.Fields.{first_data_byte, tx_empty, rd_req, tx_abrt, rx_done, stop_det};
 ghost use Rattle.regs.specs.Fields.{gen_call, restart_det, set_m_rx_full, set_m_tx_empty};
 ghost use Rattle.regs.specs.Fields.{set_m_tx_abrt, set_m_stop_det, rfne, level, no_acknowledge};
@@ -26,18 +28,11 @@ fn with_field(w: u32, k: u32, n: u32, x: u32) -> u32
     (w & !(((1 << n) - 1) << k)) | (x << k)
 }
 
-fn flag(b: bool) -> u32
-    ensures { (result ≡ b2n b)
-        × (result < 2) }
-{
-    b as u32
-}
-
 // A word for DATA_CMD.
 pub fn word_of(byte: u8, read: bool, stop: bool, restart: bool) -> u32
     ensures { result ≡ command_word byte read stop restart }
 {
-    (byte as u32) | ((read as u32) << 8) | ((stop as u32) << 9) | ((restart as u32) << 10)
+    u32::from(byte) | (u32::from(read) << 8) | (u32::from(stop) << 9) | (u32::from(restart) << 10)
 }
 
 // The byte of a word written to DATA_CMD or read there.
@@ -184,7 +179,7 @@ pub fn address_of(w: u32) -> u32
 pub fn with_sda_tx_hold(w: u32, hold: u16) -> u32
     ensures { result ≡ set_ic_sda_tx_hold hold w }
 {
-    with_field(w, 0, 16, hold as u32)
+    with_field(w, 0, 16, u32::from(hold))
 }
 
 // CON with what a slave's reset sets.
@@ -196,5 +191,5 @@ pub fn con_of_slave(w: u32, general_call: bool) -> u32
     let empty = with_field(disable, 8, 1, 1);
     let hold = with_field(empty, 9, 1, 1);
     let speed = with_field(hold, 1, 2, 2);
-    with_field(speed, 7, 1, flag(!general_call))
+    with_field(speed, 7, 1, u32::from(!general_call))
 }

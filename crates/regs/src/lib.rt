@@ -2,7 +2,7 @@
 // 25 registers, the fields of their words, and the access log.
 #![tactic(auto)]
 
-ghost use Rattle.std.specs.Prelude.{◌≡◌, get_or};
+ghost use Rattle.std.specs.Prelude.{◌≡◌, slice_get};
 ghost use Rattle.regs.specs.Registers.{offsets};
 
 pub mod answers; // what a call answers
@@ -94,16 +94,21 @@ const NAMED: [u8; 25] = [
     CLR_RESTART_DET,
 ];
 
-// The register named in a row of the table, 255 where there is no such row. Constants have no
+// The register named in a row of the table, if there is such a row. Constants have no
 // contract: this function's holds every name, and so every row of `OFFSETS`, to the table of
 // the definitions. No driver needs to call it.
-pub fn offset(row: usize) -> u8
-    ensures { result ≡ get_or offsets row 255 }
+pub fn offset(row: usize) -> Option<u8>
+    ensures { result ≡ slice_get offsets row }
 {
-    if row < 25 { NAMED[row] } else { 255 }
+    if row < NAMED.len() {
+        Some(NAMED[row])
+    } else {
+        None
+    }
 }
 
-// The marks: a poll that is not done, and a reset of the block.
+// The marks: a poll that is not done, and a reset of the block. They and the registers stay numbers, since the
+// log's words and the accesses that a caller in C performs hold them as numbers.
 pub const PENDING: u8 = 0;
 
 pub const BLOCK_RESET: u8 = 1;

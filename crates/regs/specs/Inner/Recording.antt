@@ -1,5 +1,5 @@
 -- What a step of a run makes of a recording. Only contracts of inner functions cite this.
-use Rattle.std.specs.Prelude.{ℕ, ◌+◌, ◌/◌, ◌≡◌, List, Result, Ok, Err, length}
+use Rattle.std.specs.Prelude.{ℕ, ◌+◌, ◌/◌, ◌≡◌, Result, Ok, Err, length}
 use Rattle.regs.specs.Store.{Performed}
 use Rattle.regs.specs.Inner.Machine.{performed, log_after, entered}
 use Rattle.regs.specs.declared.answers.Reply.{Reply}
