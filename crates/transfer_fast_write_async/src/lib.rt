@@ -59,6 +59,7 @@ fn byte_at(last: bool, bytes: &[u8], at: usize, i: u16) -> u8
         × (last ≡ false → at + i < length bytes.now) }
     ensures { result ≡ byte_at bytes.now at i }
 {
+    // `get(k).unwrap_or(0)` would test every byte; this tests those of a last round alone.
     let k = at + usize::from(i);
     if last & (k == bytes.len()) {
         0
@@ -96,6 +97,7 @@ fn run(t: Transfer, from: u16, bytes: &[u8], recording: &mut Recording) -> Optio
         × (recording.old.entries ≤ room_of recording.old) }
     ensures { Leads t bytes.now recording.old (go (WriteAsync (Free from))) recording.new (Ok result) }
 {
+    // No `for` is plainer: a round goes on by as many bytes as it has places for.
     let mut i = from;
     while let Some(space) = planned(i, t.operation.len, recording) {
         let rest = t.operation.len - i;

@@ -32,7 +32,7 @@ fn step(
     Ok(transfer_steps::advance(s, v, coded, kinds, lengths))
 }
 
-// The steps from a transfer to its end.
+// The steps from a transfer to its end. Kinds stay numbers: C lends them as a slice of bytes.
 pub fn drive(
     from: Transfer,
     coded: bool,
