@@ -8,7 +8,8 @@ use regs::access::Recording;
 use regs::fields::{byte_of, has_rd_req, has_stop_det, is_first_data_byte, is_not_empty, level_of};
 use regs_runs::has;
 
-// How far a message came: the status word of its last poll, the place that is next, and the places that there are.
+// How far a message came: the status word of its last poll, the place that
+// is next, and the places that there are.
 #[derive(Clone, Copy)]
 pub struct Message {
     pub stat: u32,
