@@ -52,9 +52,9 @@ impl From<AbortReason> for Failure {
                 word,
                 ..NO_FAILURE
             },
-            AbortReason::DataNotAcknowledged(word) => Failure {
+            AbortReason::DataNotAcknowledged(source) => Failure {
                 kind: 5,
-                word,
+                word: source,
                 ..NO_FAILURE
             },
         }
