@@ -6,7 +6,6 @@ use mathlib.Core.List.{List, ◌∷◌, ◌++◌, append_assoc, append-nil}
 use mathlib.Core.Path.{◌≡◌, refl, sym, ap, ◌∙◌}
 use lib.ListN.{length, take, drop, get_or, drop_of_length-le}
 use lib.Seq.{length-take-le, get_or-take, drop-cons}
-use Rattle.text_hex.specs.Appended.{Appended}
 use Rattle.svg_text.specs.Picture.{column, row}
 use Rattle.svg_text.specs.Inner.Drawn.{kind_width, word_text, words_text, words_last}
 
@@ -55,55 +54,19 @@ module _ {places : List ℕ} {n x y i : ℕ} (p : InRows places n x y i) (fits :
     omega (arith, p.low, p.within),
   )
 
--- and for the text as well
-pub record InSigns (out₀ : List ℕ) (at : ℕ) (places : List ℕ) (n : ℕ) (out : List ℕ) (end x y i : ℕ) : Type 0 where
-  pub same : take end out ++ words_text x y (drop i (take n places)) ≡ take at out₀ ++ words_text 60 70 (take n places)
-  pub room : end ≤ at + 196 * i
-  pub size : length out ≡ length out₀
-  pub narrow : x ≤ 800
-  pub low : y ≤ 70 + 120 * i
-  pub within : i ≤ n
+-- ---- the text of the signs to come, begun at x and y
 
-pub signs_start : (out : List ℕ) (at : ℕ) (places : List ℕ) (n : ℕ) → InSigns out at places n out at 60 70 0
-signs_start out at places n = record {
-  same = refl;
-  room = omega arith;
-  size = refl;
-  narrow = omega arith;
-  low = omega arith;
-  within = omega arith;
-}
+pub sign_next : (places : List ℕ) (n i x y : ℕ) {w c y' : ℕ}
+    → n ≤ length places
+    → i < n
+    → w ≡ kind_width (get_or places i 0 / 65536)
+    → c ≡ column x w
+    → y' ≡ row x y w
+    → words_text x y (drop i (take n places))
+    ≡ word_text c y' (get_or places i 0) ++ words_text (c + w) y' (drop (i + 1) (take n places))
+unfolding words_text
+sign_next places n i x y fits h e f g = rw (next places n i fits h, f, g, e)
 
-module _ {out₀ places out : List ℕ} {at n end x y i : ℕ} (p : InSigns out₀ at places n out end x y i) (fits : n ≤ length places) where
-  pub signs_next : {w c y' end' : ℕ} {out' : List ℕ}
-      → i < n
-      → w ≡ kind_width (get_or places i 0 / 65536)
-      → (c ≡ column x w) × (c + w ≤ 800)
-      → (y' ≡ row x y w) × (y' ≤ y + 120)
-      → Appended out end (word_text c y' (get_or places i 0)) 196 out' end'
-      → length out' ≡ length out
-      → InSigns out₀ at places n out' end' (c + w) y' (i + 1)
-  unfolding words_text
-  signs_next {w} {c} {y'} h e f g a size =
-      let rest = words_text (c + w) y' (drop (i + 1) (take n places)) in
-      let s : words_text x y (drop i (take n places)) ≡ word_text c y' (get_or places i 0) ++ rest =
-      rw (next places n i fits h, f.0, g.0, e) in
-      record {
-        same = ap (λ (t : List ℕ). t ++ rest) a.same
-            ∙ (append_assoc (take end out) (word_text c y' (get_or places i 0)) rest
-            ∙ (ap (λ (l : List ℕ). take end out ++ l) (sym s) ∙ p.same));
-        room = omega (arith, a.room, p.room);
-        size = size ∙ p.size;
-        narrow = f.1;
-        low = omega (arith, g.1, p.low);
-        within = omega arith;
-      }
-
-  pub signs_end : n ≤ i → Appended out₀ at (words_text 60 70 (take n places)) (196 * n) out end
-  unfolding words_text
-  signs_end h =
-      record {
-        same = sym (append-nil (take end out))
-            ∙ (ap (λ (l : List ℕ). take end out ++ words_text x y l) (sym (none places n i fits h)) ∙ p.same);
-        room = omega (arith, p.room, p.within);
-      }
+pub signs_end : (places : List ℕ) (n i x y : ℕ) → n ≤ length places → n ≤ i → words_text x y (drop i (take n places)) ≡ mathlib.Core.List.[]
+unfolding words_text
+signs_end places n i x y fits h = rw (none places n i fits h)

@@ -2,13 +2,14 @@
 #![tactic(auto)]
 
 ghost use Rattle.std.specs.Prelude.{◌+◌, ◌*◌, ◌≤◌, ◌≡◌, length, take, ltb, if◌then◌else◌};
+ghost use Rattle.text_hex.specs.Added.{Room, Added};
 ghost use Rattle.text_hex.specs.Appended.{Appended};
 ghost use Rattle.svg_text.specs.Picture.{column, row, note_text, picture};
 ghost use Rattle.svg_text.specs.Inner.Drawn.{kind_width, words_text, words_last, words_svg};
 
 use svg_text::head::{push_head, push_number};
 use svg_text::sign::push_word;
-use text_tables::ends::push_text;
+use text_hex::text::Text;
 
 // How many signs are drawn, how many entries a sequence may have, and the room for its text.
 pub const DRAWN: usize = 256;
@@ -72,58 +73,62 @@ fn last_row(places: &[u32], n: usize) -> u32
     y
 }
 
-fn push_signs(out: &mut [u8], at: usize, places: &[u32], n: usize) -> usize
-    requires { (at + 196 * n ≤ length out.old)
-        × (n ≤ length places.now)
-        × (n ≤ 256) }
-    ensures { Appended out.old at
-        (words_text 60 70 (take n places.now))
-        (196 * n) out.new result }
+fn push_signs(text: &mut Text, places: &[u32], n: usize)
+    requires room { Room (196 * n) text.old }
+    requires inside { n ≤ length places.now }
+    requires few { n ≤ 256 }
+    ensures { Added text.old (words_text 60 70 (take n places.now)) (196 * n) text.new }
 {
-    let mut end = at;
     let mut x: u32 = 60;
     let mut y: u32 = 70;
-    let mut i: usize = 0;
-    while i < n {
+    for i in 0..n {
         let word = places[i];
         let w = width_of(word / 65536);
         let c = column_of(x, w);
         y = row_of(x, y, w);
-        end = push_word(out, end, c, y, word);
+        push_word(text, c, y, word);
         x = c + w;
-        i += 1;
     }
-    end
 }
 
 // That only the first signs are drawn.
-fn push_note(out: &mut [u8], at: usize, y: u32, n: u32) -> usize
-    requires { at + 73 ≤ length out.old }
-    ensures { Appended out.old at (note_text y n) 73 out.new result }
+#[tactic(auto, using(text_hex::proofs::Adding::no_text), unfolding(svg_text::specs::Picture::note_text))]
+fn push_note(text: &mut Text, y: u32, n: u32)
+    requires { Room 73 text.old }
+    ensures { Added text.old (note_text y n) 73 text.new }
 {
-    if n > 256 {
-        let a = push_text(out, at, b"<text class=\"n\" x=\"16\" y=\"");
-        let b = push_number(out, a, y);
-        let c = push_text(out, b, b"\">the first 256 of ");
-        let d = push_number(out, c, n);
-        return push_text(out, d, b" entries</text>\n");
+    if n <= 256 {
+        return;
     }
-    at
+    text.push_text(b"<text class=\"n\" x=\"16\" y=\"");
+    push_number(text, y);
+    text.push_text(b"\">the first 256 of ");
+    push_number(text, n);
+    text.push_text(b" entries</text>\n");
 }
 
-fn push_svg(out: &mut [u8], places: &[u32], n: usize, entries: u32) -> usize
-    requires { (53000 ≤ length out.old)
-        × (n ≤ length places.now)
-        × (n ≤ 256) }
-    ensures { Appended out.old 0
-        (words_svg (take n places.now) entries)
-        53000 out.new result }
+fn push_svg(text: &mut Text, places: &[u32], n: usize, entries: u32)
+    requires room { Room 53000 text.old }
+    requires inside { n ≤ length places.now }
+    requires few { n ≤ 256 }
+    ensures { Added text.old (words_svg (take n places.now) entries) 53000 text.new }
 {
     let y = last_row(places, n);
-    let a = push_head(out, 0, y + 130);
-    let b = push_signs(out, a, places, n);
-    let c = push_note(out, b, y + 124, entries);
-    push_text(out, c, b"</svg>\n")
+    push_head(text, y + 130);
+    push_signs(text, places, n);
+    push_note(text, y + 124, entries);
+    text.push_text(b"</svg>\n");
+}
+
+fn svg(places: &[u32], n: usize, entries: u32, out: &mut [u8]) -> usize
+    requires room { 53000 ≤ length out.old }
+    requires inside { n ≤ length places.now }
+    requires few { n ≤ 256 }
+    ensures { Appended out.old 0 (words_svg (take n places.now) entries) 53000 out.new result }
+{
+    let mut text = Text::new(out, 0);
+    push_svg(&mut text, places, n, entries);
+    text.at
 }
 
 fn drawn(n: usize) -> usize
@@ -153,5 +158,5 @@ pub fn picture(log: &[u32], places: &mut [u32], out: &mut [u8]) -> usize
     if n == 0 {
         return 0;
     }
-    push_svg(out, places, drawn(n), n as u32)
+    svg(places, drawn(n), n as u32, out)
 }

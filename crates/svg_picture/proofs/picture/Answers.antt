@@ -54,4 +54,4 @@ returns c = rw (
   ← drawn_is _ _ c.bus_sequence-n.ensures
       (omega (arith, c.if-n-gt-MOST.false, c.if-places-lt-MOST.false)) c.bus_sequence-n.auto.out
       c.drawn.ensures.0,
-) (within _ c.if-out-lt-ROOM.false c.push_svg.ensures)
+) (within _ c.if-out-lt-ROOM.false c.svg.ensures)

@@ -1,13 +1,13 @@
--- `push_written`: `then` joins five pushes in the order of `byte_text`; their bounds add up to 155, which
--- `within` widens to the 157 of an address byte.
+-- `push_written`: `both` joins five pushes in the order of `byte_text`; their bounds add up to 155, which
+-- `at_most` widens to the 157 of an address byte.
 use native.Mathlib.Omega.{arith}
-use Rattle.text_hex.proofs.Appends.{then, within}
+use Rattle.text_hex.proofs.Adding.{both, at_most}
 use Rattle.svg_text.specs.Picture.{byte_text}
 use Rattle.svg_text.proofs.sign.push_written.Goals as goal
 
 pub returns : goal.returns
 unfolding byte_text
-returns c = within 157 (omega arith) (then c.push_open-c.ensures
-    (then c.push_bits-d.ensures
-    (then c.push_text-e.ensures
-    (then c.push2-f.ensures c.push_text.ensures))))
+returns c = at_most 157 (omega arith) (both c.push_open.ensures
+    (both c.push_bits.ensures
+    (both c.push_text.ensures
+    (both c.push_hex2.ensures c.push_text-2.ensures))))
