@@ -13,12 +13,14 @@ use Rattle.text_stdin.specs.Reads.{Counted, Brought, Reads, none}
 use Rattle.text_stdin.specs.declared.reads.End.{End}
 use Rattle.text_stdin.specs.declared.reads.End.TheVariants.{Open, Ended, Failed, OutOfTurns}
 use Rattle.text_stdin.proofs.Reading.{more_reads}
-use Rattle.replay_calls.specs.Inner.Runs.{MOST_TEXT, LOG_WORDS}
+use Rattle.replay_calls.specs.Inner.Runs.{MOST_TEXT, Roomy}
+use Rattle.replay_calls.specs.declared.Workspace.{Workspace}
 use Rattle.replay_session.specs.Session.{printed}
-use Rattle.replay_session.specs.Inner.Enter.{arrays, Lent, longest_kept}
+use Rattle.replay_session.specs.declared.Lists.{Lists}
+use Rattle.replay_session.specs.Inner.Enter.{arrays_of, Lent, longest_kept}
 use Rattle.replay_session.proofs.Enters.{closed_small}
 use Rattle.replay_session.proofs.Bound.{same_printed}
-use Rattle.replay_state.specs.Inner.Rest.{Whole, whole, rest, Sound}
+use Rattle.replay_state.specs.Inner.Rest.{Whole, reader_of, rest, Sound}
 use Rattle.replay_state.specs.Inner.Fed.{FedAs, start_state}
 use Rattle.replay_scan.specs.declared.Fed.{Fed}
 use Rattle.replay.specs.declared.input.Span.{Span}
@@ -39,14 +41,12 @@ pub record Moving (chunk : List ℕ) (at filled : ℕ) (w : Whole) (out : List �
   pub inside : filled ≤ length chunk
   pub most : turns ≤ length fed
 
-pub starts : {chunk text kinds lengths bytes readings buffer log out : List ℕ}
+pub starts : {chunk : List ℕ} (text : List ℕ) (l : Lists) (w : Workspace)
     → length text ≡ longest_kept
-    → Lent (arrays kinds lengths bytes readings)
-    → length buffer ≡ 4096
-    → length log ≡ LOG_WORDS
-    → MOST_TEXT + 13 ≤ length out
-    → Moving chunk 0 0 (whole start_state text kinds lengths bytes readings buffer log) out 0
-starts a b c d e =
+    → Lent (arrays_of l)
+    → Roomy w 13
+    → Moving chunk 0 0 (reader_of start_state text l w) w.out.now 0
+starts text l w a b c =
     record {
       count = 0;
       came = [];
@@ -55,8 +55,8 @@ starts a b c d e =
       parts = refl;
       text = [];
       same = λ more. sym (same_printed more);
-      sound = record { part = omega arith; small = closed_small; lent = b; text = a; buffer = c; log = d };
-      room = e;
+      sound = record { part = omega arith; small = closed_small; lent = b; text = a; buffer = c.buffer; log = c.log };
+      room = omega (arith, c.out);
       order = omega arith;
       inside = omega arith;
       most = omega arith;

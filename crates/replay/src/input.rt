@@ -1,11 +1,13 @@
 // Moves bytes: from standard input to the reader, and its answers to standard output.
 ghost use Rattle.std.specs.Prelude.{◌≡◌, ◌+◌, ◌<◌, ◌≤◌, length};
-ghost use Rattle.replay_calls.specs.Inner.Runs.{MOST_TEXT, LOG_WORDS};
-ghost use Rattle.replay_session.specs.Inner.Enter.{arrays, Lent, longest_kept};
-ghost use Rattle.replay_state.specs.Inner.Rest.{whole, Sound};
+ghost use Rattle.replay_calls.specs.Inner.Runs.{MOST_TEXT, Roomy, SameSpace};
+ghost use Rattle.replay_session.specs.Inner.Enter.{arrays_of, Lent, SameLists, longest_kept};
+ghost use Rattle.replay_state.specs.Inner.Rest.{reader_of, Sound};
 ghost use Rattle.replay.specs.Replayed.{Unfed, FedFrom, ReadAll, AtEnd};
 
+use replay_calls::Workspace;
 use replay_scan::Fed;
+use replay_session::Lists;
 use replay_state::State;
 use replay_state::ends::start;
 use std::io::Print;
@@ -53,44 +55,34 @@ fn feed_from(
     filled: usize,
     s: State,
     text: &mut [u8],
-    kinds: &mut [u8],
-    lengths: &mut [u16],
-    bytes: &mut [u8],
-    readings: &mut [u32],
-    buffer: &mut [u8],
-    log: &mut [u32],
-    out: &mut [u8],
+    lists: &mut Lists,
+    work: &mut Workspace,
 ) -> Fed
-    requires { (at < filled)
-        × (filled ≤ length chunk.now)
-        × Sound
-        (whole s text.old kinds.old lengths.old bytes.old readings.old buffer.old log.old)
-        × (MOST_TEXT ≤ length out.old) }
-    ensures { FedFrom
-        (whole s text.old kinds.old lengths.old bytes.old
-        readings.old buffer.old log.old)
+    requires some { at < filled }
+    requires inside { filled ≤ length chunk.now }
+    requires sound { Sound (reader_of s text.old lists.old work.old) }
+    requires room { MOST_TEXT ≤ length work.old.out.now }
+    ensures same { SameLists lists.old lists.new }
+    ensures same_space { SameSpace work.old work.new }
+    ensures fed { FedFrom
+        (reader_of s text.old lists.old work.old)
         chunk.now at filled
-        (whole result.state text.new kinds.new lengths.new bytes.new
-        readings.new buffer.new log.new)
-        out.new result }
+        (reader_of result.state text.new lists.new work.new)
+        work.new.out.now result }
 {
-    let f = replay_feed::feed(
-        &chunk[at..filled],
-        s,
-        text,
-        kinds,
-        lengths,
-        bytes,
-        readings,
-        buffer,
-        log,
-        out,
-    );
+    let f = replay_feed::feed(&chunk[at..filled], s, text, lists, work);
     Fed {
         state: f.state,
         used: at + f.used,
         made: f.made,
     }
+}
+
+// Writes the first `made` bytes of the answers' buffer, and says whether that failed.
+fn fails_to_write(rt: HostRuntime, work: &Workspace, made: usize) -> bool
+    requires { made ≤ length work.now.out.now }
+{
+    rt.stdout().write_all(&work.out[..made]).is_err()
 }
 
 // Reads to the end of the input, and writes answers on the way; a read or a write that fails ends it
@@ -99,22 +91,15 @@ pub fn read_all(
     rt: HostRuntime,
     chunk: &mut [u8],
     text: &mut [u8],
-    kinds: &mut [u8],
-    lengths: &mut [u16],
-    bytes: &mut [u8],
-    readings: &mut [u32],
-    buffer: &mut [u8],
-    log: &mut [u32],
-    out: &mut [u8],
+    lists: &mut Lists,
+    work: &mut Workspace,
 ) -> Read
-    requires { (length text.old ≡ longest_kept)
-        × Lent (arrays kinds.old lengths.old bytes.old readings.old)
-        × (length buffer.old ≡ 4096)
-        × (length log.old ≡ LOG_WORDS)
-        × (MOST_TEXT + 13 ≤ length out.old) }
-    ensures { ReadAll
-        (whole result.state text.new kinds.new lengths.new bytes.new
-        readings.new buffer.new log.new) result }
+    requires text { length text.old ≡ longest_kept }
+    requires lent { Lent (arrays_of lists.old) }
+    requires space { Roomy work.old 13 }
+    ensures same { SameLists lists.old lists.new }
+    ensures same_space { SameSpace work.old work.new }
+    ensures read { ReadAll (reader_of result.state text.new lists.new work.new) result }
 {
     let mut state = start();
     let mut at: usize = 0;
@@ -130,13 +115,11 @@ pub fn read_all(
                 written: true,
             };
         }
-        let f = feed_from(
-            chunk, from, filled, state, text, kinds, lengths, bytes, readings, buffer, log, out,
-        );
+        let f = feed_from(chunk, from, filled, state, text, lists, work);
         state = f.state;
         at = f.used;
         let made = f.made;
-        if rt.stdout().write_all(&out[..made]).is_err() {
+        if fails_to_write(rt, work, made) {
             return Read {
                 state,
                 end: End::Open,
@@ -152,28 +135,15 @@ pub fn read_all(
 }
 
 // What is printed at the end of the input; nothing where it has not ended.
-pub fn at_end(
-    end: End,
-    s: State,
-    text: &[u8],
-    kinds: &mut [u8],
-    lengths: &mut [u16],
-    bytes: &mut [u8],
-    readings: &mut [u32],
-    buffer: &mut [u8],
-    log: &mut [u32],
-    out: &mut [u8],
-) -> usize
-    requires { Sound
-        (whole s text.now kinds.old lengths.old bytes.old readings.old buffer.old log.old)
-        × (MOST_TEXT + 13 ≤ length out.old) }
-    ensures { AtEnd end
-        (whole s text.now kinds.old lengths.old bytes.old
-        readings.old buffer.old log.old)
-        out.new result }
+pub fn at_end(end: End, s: State, text: &[u8], lists: &mut Lists, work: &mut Workspace) -> usize
+    requires sound { Sound (reader_of s text.now lists.old work.old) }
+    requires room { MOST_TEXT + 13 ≤ length work.old.out.now }
+    ensures same { SameLists lists.old lists.new }
+    ensures same_space { SameSpace work.old work.new }
+    ensures printed { AtEnd end (reader_of s text.now lists.old work.old) work.new.out.now result }
 {
     if is_ended(end) {
-        return replay_feed::finish(s, text, kinds, lengths, bytes, readings, buffer, log, out);
+        return replay_feed::finish(s, text, lists, work);
     }
     0
 }

@@ -6,6 +6,8 @@
 
 mod input; // standard input, read to its end
 
+use replay_calls::Workspace;
+use replay_session::Lists;
 use std::io::Print;
 use text_stdin::report;
 
@@ -19,32 +21,20 @@ fn main(rt: HostRuntime) {
     let mut buffer = [0u8; 4096];
     let mut log = [0u32; 16384];
     let mut out = [0u8; 262144];
-    let r = input::read_all(
-        rt,
-        &mut chunk,
-        &mut text,
-        &mut kinds,
-        &mut lengths,
-        &mut bytes,
-        &mut readings,
-        &mut buffer,
-        &mut log,
-        &mut out,
-    );
-    let last = r.state;
+    let mut lists = Lists {
+        kinds: &mut kinds,
+        lengths: &mut lengths,
+        bytes: &mut bytes,
+        readings: &mut readings,
+    };
+    let mut work = Workspace {
+        buffer: &mut buffer,
+        log: &mut log,
+        out: &mut out,
+    };
+    let r = input::read_all(rt, &mut chunk, &mut text, &mut lists, &mut work);
     let end = r.end;
-    let made = input::at_end(
-        end,
-        last,
-        &text,
-        &mut kinds,
-        &mut lengths,
-        &mut bytes,
-        &mut readings,
-        &mut buffer,
-        &mut log,
-        &mut out,
-    );
-    let written = rt.stdout().write_all(&out[..made]).is_ok();
+    let made = input::at_end(end, r.state, &text, &mut lists, &mut work);
+    let written = rt.stdout().write_all(&work.out[..made]).is_ok();
     report::stopped(rt, b"replay", written && r.written, end);
 }

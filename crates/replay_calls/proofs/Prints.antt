@@ -16,6 +16,8 @@ use Rattle.regs.proofs.Refine.{length_encode}
 use Rattle.regs.proofs.RoundTrip.{read_back}
 use Rattle.text_hex.specs.Print.{log_text, reply_text}
 use Rattle.text_hex.specs.Appended.{Appended}
+use Rattle.text_hex.specs.Added.{Added}
+use Rattle.text_hex.specs.declared.text.Text.{Text}
 use Rattle.text_hex.proofs.Appends.{within}
 use Rattle.replay_calls.specs.Calls.{LOG_ENTRIES, replayed, shown}
 use Rattle.replay_calls.specs.Inner.Runs.{LOG_WORDS, MOST_TEXT}
@@ -93,3 +95,9 @@ module _ {S : Type 0} (p : Program S Answer Answer) (legal : LegalCall p) (log r
   prints_none buffered x = prints p legal log readings [] s size l kept buffered []
       (sym (none_stored Answered LogFull OutOfReadings (behaviour p (length log / 2)) (length log / 2) readings s))
       (omega arith) x
+
+-- the text that was put stands in the same buffer, whatever it is called
+pub printed_as : {before after : Text} {t u : List ℕ} {n m : ℕ} → Added before t n after
+    → Appended before.out.now before.at u m after.out.now after.at
+    → Added before u m after
+printed_as x y = record { same_reference = x.same_reference; size = x.size; appended = y }

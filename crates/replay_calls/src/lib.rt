@@ -7,8 +7,7 @@ pub mod outcome; // what a run left, printed
 use form::Form;
 use slave::SlaveState;
 
-// A call as its call frame gives it. The operations of a
-// transfer and the bytes of a response stand beside it.
+// A call as its call frame gives it. Its operations stand beside it.
 #[derive(Clone, Copy)]
 pub enum Call {
     Clock(u32, u32),
@@ -18,6 +17,24 @@ pub enum Call {
     Respond,
     Fill(u8),
     RespondAndFill(u8),
+}
+
+// The operations of a call, as the master's calls take them (two slices, as in C): kinds and lengths
+// beside the bytes to write and the number of bytes to read. The bytes of a slave's response are an operation too.
+#[derive(Clone, Copy)]
+pub struct Operations<'a> {
+    pub kinds: &'a [u8],
+    pub lengths: &'a [u16],
+    pub bytes: &'a [u8],
+    pub room: usize,
+}
+
+// What the run of a call is lent: the read or listen buffer, the log, and the buffer of the answers.
+#[derive(Drop)]
+pub struct Workspace<'a> {
+    pub buffer: &'a mut [u8],
+    pub log: &'a mut [u32],
+    pub out: &'a mut [u8],
 }
 
 // The slave's state after a call, and where the printed text ends.

@@ -2,12 +2,12 @@
 ghost use Rattle.std.specs.Prelude.{◌≡◌, ◌++◌, ◌+◌, ◌*◌, ◌≤◌, length, take, replicate};
 ghost use Rattle.regs.specs.Log.{decode};
 ghost use Rattle.text_hex.specs.Print.{log_text, reply_text};
-ghost use Rattle.text_hex.specs.Appended.{Appended};
+ghost use Rattle.text_hex.specs.Added.{Room, Added};
 ghost use Rattle.replay_calls.specs.Calls.{shown_by, shown};
 
-use answer_text::{push_log, push_reply};
+use answer_text::entries::{push_log, push_reply};
 use regs::access::Ran;
-use text_hex::print;
+use text_hex::text::Text;
 
 // Zeros in all of a buffer.
 pub fn clear(buffer: &mut [u8])
@@ -17,38 +17,30 @@ pub fn clear(buffer: &mut [u8])
 }
 
 // The buffer, where there is one and the call was not refused with 20.
-fn push_shown(out: &mut [u8], at: usize, buffered: bool, number: u8, buffer: &[u8]) -> usize
-    requires { at + (3 + 2 * length buffer.now) ≤ length out.old }
-    ensures { Appended out.old at
+fn push_shown(text: &mut Text, buffered: bool, number: u8, buffer: &[u8])
+    requires { Room (3 + 2 * length buffer.now) text.old }
+    ensures { Added text.old
         (shown_by buffered number buffer.now)
         (3 + 2 * length buffer.now)
-        out.new result }
+        text.new }
 {
     if buffered && number != 20 {
-        return print::push_buffer(out, at, buffer);
+        return text.push_buffer(buffer);
     }
-    at
 }
 
-// The log, the buffer, the reply.
-pub fn push_outcome(
-    out: &mut [u8],
-    at: usize,
-    log: &[u32],
-    ran: Ran,
-    buffered: bool,
-    buffer: &[u8],
-) -> usize
-    requires { (at + (13 * ran.entries + (3 + 2 * length buffer.now + 13)) ≤ length out.old)
+// The log, the buffer, the reply. `buffered` is not whether there is a buffer: a transfer that lists a read
+// prints its buffer even where it is empty, and one that lists none prints none.
+pub fn push_outcome(text: &mut Text, log: &[u32], ran: Ran, buffered: bool, buffer: &[u8])
+    requires { Room (13 * ran.entries + (3 + 2 * length buffer.now + 13)) text.old
         × (ran.entries * 2 ≤ length log.now) }
-    ensures { Appended out.old at
+    ensures { Added text.old
         (log_text (decode (take (ran.entries * 2) log.now))
         ++ (shown buffered ran.reply buffer.now ++ reply_text ran.reply))
         (13 * ran.entries + (3 + 2 * length buffer.now + 13))
-        out.new result }
+        text.new }
 {
-    let a = push_log(out, at, log, ran.entries);
-    let reply = ran.reply;
-    let b = push_shown(out, a, buffered, regs_numbers::number_of(reply), buffer);
-    push_reply(out, b, reply)
+    push_log(text, log, ran.entries);
+    push_shown(text, buffered, regs_numbers::number_of(ran.reply), buffer);
+    push_reply(text, ran.reply);
 }

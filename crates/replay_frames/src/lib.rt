@@ -3,8 +3,8 @@
 
 ghost use Rattle.std.specs.Prelude.{◌≡◌};
 ghost use Rattle.text_hex.specs.Appended.{Below, NumberAs};
-ghost use Rattle.replay_frames.specs.Frame.{clock_of, master_of, reset_of, listen_of, fill_of, read_of};
-ghost use Rattle.replay_frames.specs.Frame.{reading_of, slave_of, of_kind, plain_of, fill_head};
+ghost use Rattle.replay_frames.specs.Frame.{clock_of, master_of, reset_of};
+ghost use Rattle.replay_frames.specs.Frame.{slave_of, of_kind, plain_of, fill_head};
 ghost use Rattle.replay_frames.specs.Frame.{slave_head, head_of, width};
 ghost use Rattle.replay_frames.specs.Inner.Short.{as_frame};
 
@@ -59,41 +59,14 @@ fn reset(address: Option<u32>, general: Option<u32>) -> Option<Short>
     }
 }
 
-fn listen(places: Option<u32>) -> Option<Short>
-    requires { Below 4 places }
-    ensures { as_frame result ≡ listen_of places }
-{
-    Some(Short::Opens(Call::Listen(places? as u16)))
-}
-
-fn fill(byte: Option<u32>) -> Option<Short>
-    requires { Below 2 byte }
-    ensures { as_frame result ≡ fill_of byte }
-{
-    Some(Short::Opens(Call::Fill(byte? as u8)))
-}
-
-fn read(places: Option<u32>) -> Option<Short>
-    requires { Below 4 places }
-    ensures { as_frame result ≡ read_of places }
-{
-    Some(Short::Read(places? as u16))
-}
-
-fn reading(word: Option<u32>) -> Option<Short>
-    ensures { as_frame result ≡ reading_of word }
-{
-    Some(Short::Reading(word?))
-}
-
 // The slave's call frames that have no bytes.
 fn slave(line: &[u8], form: Option<u32>) -> Option<Short>
     ensures { as_frame result ≡ slave_of line.now form }
 {
     match (form?, line.len()) {
         (0, 10) => reset(number(line, 4, 4), number(line, 8, 2)),
-        (1, 8) => listen(number(line, 4, 4)),
-        (3, 6) => fill(number(line, 4, 2)),
+        (1, 8) => Some(Short::Opens(Call::Listen(number(line, 4, 4)? as u16))),
+        (3, 6) => Some(Short::Opens(Call::Fill(number(line, 4, 2)? as u8))),
         _ => None,
     }
 }
@@ -116,8 +89,8 @@ fn of_kind(line: &[u8], kind: u32) -> Option<Short>
         (0x01, 18) => clock(number(line, 2, 8), number(line, 10, 8)),
         (0x02, 8) => master(number(line, 2, 2), number(line, 4, 4)),
         (0x03, _) => slave(line, byte_at(line, 2)),
-        (0x11, 6) => read(number(line, 2, 4)),
-        (0x20, 10) => reading(number(line, 2, 8)),
+        (0x11, 6) => Some(Short::Read(number(line, 2, 4)? as u16)),
+        (0x20, 10) => Some(Short::Reading(number(line, 2, 8)?)),
         (0xFF, 2) => Some(Short::Run),
         _ => None,
     }

@@ -1,16 +1,18 @@
 // The master's transfers, run and printed.
 #![tactic(auto)]
 
-ghost use Rattle.std.specs.Prelude.{◌≡◌, [], ◌&&◌, ◌+◌, ◌≤◌, length};
+ghost use Rattle.std.specs.Prelude.{◌≡◌, [], ◌&&◌, ◌≤◌, length};
 ghost use Rattle.regs.specs.Log.{Leaves, LeavesBuffer, expected};
 ghost use Rattle.master.specs.Operations.{fits, lists};
 ghost use Rattle.master.specs.Operations as Master;
+ghost use Rattle.text_hex.specs.Added.{Room};
 ghost use Rattle.replay_calls.specs.Calls.{listed, within_form, lists_read};
 ghost use Rattle.replay_calls.specs.Inner.Runs.{LOG_WORDS, MOST_TEXT, Transferred};
 
 use regs::access::Ran;
 use replay_calls::form::{Form, Kind, Mode};
 use replay_calls::outcome::{clear, push_outcome};
+use text_hex::text::Text;
 
 // Whether an operation is a read.
 fn has_read(kinds: &[u8]) -> bool
@@ -118,34 +120,33 @@ pub fn transfer(
     room: &mut [u8],
     readings: &[u32],
     log: &mut [u32],
-    out: &mut [u8],
-    at: usize,
-) -> usize
+    text: &mut Text,
+)
     requires { (length room.old ≤ 4096)
         × (length log.old ≡ LOG_WORDS)
-        × (at + MOST_TEXT ≤ length out.old) }
+        × Room MOST_TEXT text.old }
     ensures { Transferred form address
         (listed kinds.now lengths.now bytes.now (length room.old))
-        readings.now out.old at out.new result }
+        readings.now text.old text.new }
 {
     let buffered = has_read(kinds);
     clear(room);
     match form.kind {
         Kind::Read => {
             let ran = read(form, address, room, readings, log);
-            push_outcome(out, at, log, ran, buffered, room)
+            push_outcome(text, log, ran, buffered, room)
         }
         Kind::Write => {
             let ran = write(form, address, bytes, readings, log);
-            push_outcome(out, at, log, ran, buffered, b"")
+            push_outcome(text, log, ran, buffered, b"")
         }
         Kind::WriteRead => {
             let ran = write_read(form, address, bytes, room, readings, log);
-            push_outcome(out, at, log, ran, buffered, room)
+            push_outcome(text, log, ran, buffered, room)
         }
         Kind::Transaction => {
             let ran = transact(form, address, kinds, lengths, bytes, room, readings, log);
-            push_outcome(out, at, log, ran, buffered, room)
+            push_outcome(text, log, ran, buffered, room)
         }
     }
 }

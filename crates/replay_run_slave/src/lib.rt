@@ -1,15 +1,16 @@
 // The slave's calls, run and printed.
 #![tactic(auto)]
 
-ghost use Rattle.std.specs.Prelude.{◌≡◌, true, false, [], ◌+◌, ◌≤◌, length, replicate};
+ghost use Rattle.std.specs.Prelude.{◌≡◌, true, false, [], ◌≤◌, length, replicate};
 ghost use Rattle.slave.specs.I2cSlave.{reset_call, listen_call, respond_to_read_call, respond_till_stop_call};
 ghost use Rattle.slave.specs.I2cSlave.{respond_and_fill_call};
+ghost use Rattle.text_hex.specs.Added.{Room};
 ghost use Rattle.replay_calls.specs.Calls.{replayed};
 ghost use Rattle.replay_calls.specs.Inner.Runs.{LOG_WORDS, MOST_TEXT, Runs};
 
-use replay_calls::Done;
 use replay_calls::outcome::{clear, push_outcome};
 use slave::SlaveState;
+use text_hex::text::Text;
 
 pub fn reset(
     address: u16,
@@ -17,20 +18,17 @@ pub fn reset(
     s: SlaveState,
     readings: &[u32],
     log: &mut [u32],
-    out: &mut [u8],
-    at: usize,
-) -> Done
+    text: &mut Text,
+) -> SlaveState
     requires { (length log.old ≡ LOG_WORDS)
-        × (at + MOST_TEXT ≤ length out.old) }
+        × Room MOST_TEXT text.old }
     ensures { Runs false
         (replayed (reset_call address general_call) readings.now [] s)
-        out.old at out.new result }
+        text.old text.new result }
 {
     let l = i2c_slave::reset(s, address, general_call, readings, log);
-    let ran = l.ran;
-    let slave = l.state;
-    let end = push_outcome(out, at, log, ran, false, b"");
-    Done { slave, end }
+    push_outcome(text, log, l.ran, false, b"");
+    l.state
 }
 
 // Listens into the whole of a buffer.
@@ -39,23 +37,20 @@ pub fn listen(
     s: SlaveState,
     readings: &[u32],
     log: &mut [u32],
-    out: &mut [u8],
-    at: usize,
-) -> Done
+    text: &mut Text,
+) -> SlaveState
     requires { (length buffer.old ≤ 4096)
         × (length log.old ≡ LOG_WORDS)
-        × (at + MOST_TEXT ≤ length out.old) }
+        × Room MOST_TEXT text.old }
     ensures { Runs true
         (replayed (listen_call (length buffer.old)) readings.now
         (replicate (length buffer.old) 0) s)
-        out.old at out.new result }
+        text.old text.new result }
 {
     clear(buffer);
     let l = i2c_slave::listen(s, buffer, readings, log);
-    let ran = l.ran;
-    let slave = l.state;
-    let end = push_outcome(out, at, log, ran, true, buffer);
-    Done { slave, end }
+    push_outcome(text, log, l.ran, true, buffer);
+    l.state
 }
 
 pub fn respond(
@@ -63,20 +58,17 @@ pub fn respond(
     s: SlaveState,
     readings: &[u32],
     log: &mut [u32],
-    out: &mut [u8],
-    at: usize,
-) -> Done
+    text: &mut Text,
+) -> SlaveState
     requires { (length log.old ≡ LOG_WORDS)
-        × (at + MOST_TEXT ≤ length out.old) }
+        × Room MOST_TEXT text.old }
     ensures { Runs false
         (replayed (respond_to_read_call bytes.now) readings.now [] s)
-        out.old at out.new result }
+        text.old text.new result }
 {
     let l = i2c_slave::respond_to_read(s, bytes, readings, log);
-    let ran = l.ran;
-    let slave = l.state;
-    let end = push_outcome(out, at, log, ran, false, b"");
-    Done { slave, end }
+    push_outcome(text, log, l.ran, false, b"");
+    l.state
 }
 
 pub fn fill(
@@ -84,20 +76,17 @@ pub fn fill(
     s: SlaveState,
     readings: &[u32],
     log: &mut [u32],
-    out: &mut [u8],
-    at: usize,
-) -> Done
+    text: &mut Text,
+) -> SlaveState
     requires { (length log.old ≡ LOG_WORDS)
-        × (at + MOST_TEXT ≤ length out.old) }
+        × Room MOST_TEXT text.old }
     ensures { Runs false
         (replayed (respond_till_stop_call fill) readings.now [] s)
-        out.old at out.new result }
+        text.old text.new result }
 {
     let l = i2c_slave::respond_till_stop(s, fill, readings, log);
-    let ran = l.ran;
-    let slave = l.state;
-    let end = push_outcome(out, at, log, ran, false, b"");
-    Done { slave, end }
+    push_outcome(text, log, l.ran, false, b"");
+    l.state
 }
 
 pub fn respond_and_fill(
@@ -106,18 +95,15 @@ pub fn respond_and_fill(
     s: SlaveState,
     readings: &[u32],
     log: &mut [u32],
-    out: &mut [u8],
-    at: usize,
-) -> Done
+    text: &mut Text,
+) -> SlaveState
     requires { (length log.old ≡ LOG_WORDS)
-        × (at + MOST_TEXT ≤ length out.old) }
+        × Room MOST_TEXT text.old }
     ensures { Runs false
         (replayed (respond_and_fill_call bytes.now fill) readings.now [] s)
-        out.old at out.new result }
+        text.old text.new result }
 {
     let l = i2c_slave::respond_and_fill(s, bytes, fill, readings, log);
-    let ran = l.ran;
-    let slave = l.state;
-    let end = push_outcome(out, at, log, ran, false, b"");
-    Done { slave, end }
+    push_outcome(text, log, l.ran, false, b"");
+    l.state
 }

@@ -16,10 +16,11 @@ use Rattle.replay_calls.specs.Calls.{MOST_READINGS}
 use Rattle.replay_calls.specs.declared.Call.{Call}
 use Rattle.replay_session.specs.Session.{complete, line_after, printed_from}
 use Rattle.replay_session.specs.Inner.Bounded.{Kept, Held, within}
-use Rattle.replay_session.specs.Inner.Enter.{Arrays, arrays, kept_of, session_of, counts_of, Within}
+use Rattle.replay_session.specs.Inner.Enter.{Arrays, arrays, kept_by, kept_of, session_of, counts_of, Within}
 use Rattle.replay_session.specs.declared.Wants.{Wants}
 use Rattle.replay_session.specs.declared.Wants.TheVariants.{Nothing}
 use Rattle.replay_session.specs.declared.Open.{Open}
+use Rattle.replay_session.specs.declared.Filled.{Filled}
 use Rattle.replay_state.specs.Inner.Rest.{whole, rest, rest_of, from_line, Sound, Went}
 use Rattle.replay_state.specs.declared.Part.{Part}
 use Rattle.replay_state.specs.declared.Part.TheVariants.{Stopped, Text, Long}
@@ -111,6 +112,11 @@ is_ready s e = go s.part s.call refl refl e
         record { open_call = o; part = f ∙ ap Text (eqb-true n 0 a.0); call = h; wants = a.1 }
     go (Long odd) c f h g = absurd (false_true g)
 
+-- what is kept of the operations does not depend on the readings
+kept_any : (f : Option Filled) (ks ls bs rs rs' : List ℕ) → kept_by f (arrays ks ls bs rs) ≡ kept_by f (arrays ks ls bs rs')
+kept_any None ks ls bs rs rs' = refl
+kept_any (Some f) ks ls bs rs rs' = refl
+
 module _ (s : State) (chunk : List ℕ) (i : ℕ) (rs₀ rs : List ℕ) (r : Ran) (o : Open) (part : s.part ≡ Text 0)
     (call : s.call ≡ Some o) (wants : complete o.wants ≡ true) where
   ran_by : Run chunk i (counts_of s.call).readings s.line rs₀ r.used r.count r.line rs → RanAs s chunk i rs₀ rs r
@@ -128,12 +134,7 @@ module _ (s : State) (chunk : List ℕ) (i : ℕ) (rs₀ rs : List ℕ) (r : Ran
                 record {
                   part = omega arith;
                   small = rw call (record {
-                    counts = record {
-                      ops = counts.ops;
-                      bytes = counts.bytes;
-                      reads = counts.reads;
-                      readings = p.fits g.small.counts.readings;
-                    };
+                    counts = record { filled = counts.filled; readings = p.fits g.small.counts.readings };
                   });
                   lent = record { kinds = g.lent.kinds; lengths = g.lent.lengths; bytes = g.lent.bytes; readings = p.size };
                   text = g.text;
@@ -151,7 +152,7 @@ module _ (s : State) (chunk : List ℕ) (i : ℕ) (rs₀ rs : List ℕ) (r : Ran
           still_printed input =
               rw (part, call)
               (rw first at (p.same s.slave o.call o.wants (kept_of o.counts (arrays ks ls bs rs₀)) wants input)
-              ∙ rw (lt-ltb i r.used h))
+              ∙ rw (lt-ltb i r.used h, kept_any o.counts.filled ks ls bs rs₀ rs))
 
 pub ran : (s : State) (chunk : List ℕ) (i : ℕ) (rs₀ rs : List ℕ) (r : Ran)
     → ready_of s ≡ true

@@ -26,17 +26,18 @@ use Rattle.replay_frames.specs.Frame.{opens, read, reading, run, bad, bytes_fram
 use Rattle.replay_frames.specs.declared.Line.{Line}
 use Rattle.replay_session.specs.Session.{going, malformed, wants_of, read_taken, write_taken, complete}
 use Rattle.replay_session.specs.Inner.Bounded.{bounded, add, Held, within, operation, next_held}
-use Rattle.replay_session.specs.Inner.Enter.{Arrays, arrays, kept_of, session_of, no_counts, counts_of, Within}
+use Rattle.replay_session.specs.Inner.Enter.{Arrays, arrays, kept_by, kept_of, session_of, no_counts, counts_of, Within, FewIf}
 use Rattle.replay_session.specs.Inner.Enter.{Small, Lent, EnteredAs, CalledAs, opened, entered, not_entered, over_of, added_to}
 use Rattle.replay_session.specs.Inner.Enter.{call_entered, read_entered, taken_as, taken_by}
-use Rattle.replay_session.specs.Inner.Enter.{bytes_entered, one_reading, reading_entered}
+use Rattle.replay_session.specs.Inner.Enter.{bytes_entered, one_reading, reading_entered, stored, with_reading, more_if, PutBehind}
 use Rattle.replay_session.specs.declared.Wants.{Wants}
 use Rattle.replay_session.specs.declared.Wants.TheVariants.{Nothing}
 use Rattle.replay_session.specs.declared.Counts.{Counts}
+use Rattle.replay_session.specs.declared.Filled.{Filled}
 use Rattle.replay_session.specs.declared.Open.{Open}
 use Rattle.replay_session.proofs.Bound.{bounded_more}
-use Rattle.replay_session.proofs.Keeps.{stored, stored_lent, added_within, added_readings, over_within}
-use Rattle.replay_session.proofs.Keeps.{kept_read, kept_write, kept_wide}
+use Rattle.replay_session.proofs.Keeps.{stored_lent, stored_readings, added_within, over_within}
+use Rattle.replay_session.proofs.Keeps.{kept_read_if, kept_reading, kept_write, kept_wide}
 
 pub refused : {a : Arrays} {out : List ℕ} {at : ℕ} → Lent a → EnteredAs not_entered a out at out malformed
 refused {a} {out} {at} l = record { same = refl; text = nothing out at MOST_TEXT; small = tt; lent = l }
@@ -53,7 +54,10 @@ busy : (c : Call) (w : Wants) (n : Counts) → Within n → Small (Some (opened 
 busy c w n h = record { counts = h }
 
 no_counts_within : Within no_counts
-no_counts_within = record { ops = omega arith; bytes = omega arith; reads = omega arith; readings = omega arith }
+no_counts_within = record {
+  filled = record { ops = omega arith; bytes = omega arith; reads = omega arith };
+  readings = omega arith;
+}
 
 pub closed_small : Small None
 closed_small = record { counts = no_counts_within }
@@ -113,18 +117,18 @@ module _ (o : Option Open) (s : SlaveState) (a : Arrays) (at : ℕ) (out : List 
       go None = refused l
 
   pub enters_read : (m : ℕ)
-      → EnteredAs (read_entered m o s at) (stored (counts_of o) a 0 m) out at out
+      → EnteredAs (read_entered m o s at) (stored (counts_of o).filled a 0 m) out at out
       (next_held (session_of o s a) (read m))
   enters_read m = go o g
     where
       go : (p : Option Open)
           → Small p
-          → EnteredAs (read_entered m p s at) (stored (counts_of p) a 0 m) out at out
+          → EnteredAs (read_entered m p s at) (stored (counts_of p).filled a 0 m) out at out
           (next_held (session_of p s a) (read m))
-      go None h = refused (stored_lent no_counts a h.counts l 0 m)
-      go (Some p) h = takes p s a at out (added_to p.counts 0 m) (stored p.counts a 0 m) (reads m) (read_taken p.wants)
-          (added_within p.counts h.counts 0 m) (stored_lent p.counts a h.counts l 0 m)
-          (added_readings p.counts h.counts 0 m) refl (kept_read p.counts a h.counts l m)
+      go None h = refused (stored_lent no_counts.filled a l 0 m)
+      go (Some p) h = takes p s a at out (added_to p.counts 0 m) (stored p.counts.filled a 0 m) (reads m) (read_taken p.wants)
+          (added_within p.counts h.counts 0 m) (stored_lent p.counts.filled a l 0 m)
+          refl (stored_readings p.counts.filled a 0 m) (kept_read_if p.counts.filled a h.counts.filled l m)
 
   -- a line of more bytes than any call may have
   pub enters_wide : (bs : List ℕ)
@@ -133,31 +137,46 @@ module _ (o : Option Open) (s : SlaveState) (a : Arrays) (at : ℕ) (out : List 
       → EnteredAs (bytes_entered (taken_by line o (over_of (counts_of o))) s at) a out at out
       (next_held (session_of o s a) (bytes_frame line (Some bs)))
   enters_wide bs h line = enters_written s a at out (over_of (counts_of o)) a bs (over_within (counts_of o) g.counts) l
-      refl o line refl (kept_wide (counts_of o) a g.counts l bs h)
+      refl o line refl (kept_wide (counts_of o) a bs h)
 
   -- a line that ends in pairs of digits, whose bytes were put behind those of the call
-  pub enters_pairs : (ds bytes' : List ℕ) → whole_pairs ds ≡ true → PutAt ds (counts_of o).bytes a.bytes bytes' → (line : Line)
+  pub enters_pairs : (ds : List ℕ) (a₁ : Arrays) → whole_pairs ds ≡ true → PutBehind ds (counts_of o).filled a a₁ → (line : Line)
       → EnteredAs (bytes_entered (taken_by line o (added_to (counts_of o) (length ds / 2) 0)) s at)
-      (stored (counts_of o) (arrays a.kinds a.lengths bytes' a.readings) 1 (length ds / 2)) out at out
+      (stored (counts_of o).filled a₁ 1 (length ds / 2)) out at out
       (next_held (session_of o s a) (bytes_frame line (bytes_of ds)))
-  enters_pairs ds bytes' w p line =
+  enters_pairs ds a₁ w p line =
       rw (written ds w, ← length_values ds) (
-      enters_written s a at out (added_to n (length (values ds)) 0) (stored n a' 1 (length (values ds)))
+      enters_written s a at out (added_to n (length (values ds)) 0) (stored n.filled a₁ 1 (length (values ds)))
       (values ds) (added_within n g.counts (length (values ds)) 0)
-      (stored_lent n a' g.counts l' 1 (length (values ds))) refl o line
-      (added_readings n g.counts (length (values ds)) 0)
-      (kept_write n a g.counts l bytes' (values ds) p.below
-      (λ h. rw (length_values ds) (p.stored (omega (arith, length_values ds, l.bytes)))))
+      (stored_lent n.filled a₁ (put_lent n.filled p) 1 (length (values ds)))
+      (stored_readings n.filled a₁ 1 (length (values ds)) ∙ put_readings n.filled p) o line refl
+      (kept n.filled g.counts.filled p)
       )
     where
       n : Counts
       n = counts_of o
 
-      a' : Arrays
-      a' = arrays a.kinds a.lengths bytes' a.readings
+      put_lent : (f : Option Filled) → PutBehind ds f a a₁ → Lent a₁
+      put_lent None e = rw e l
+      put_lent (Some f) e = record {
+        kinds = rw e.0 l.kinds;
+        lengths = rw e.1 l.lengths;
+        bytes = e.3.size ∙ l.bytes;
+        readings = rw e.2 l.readings;
+      }
 
-      l' : Lent a'
-      l' = record { kinds = l.kinds; lengths = l.lengths; bytes = p.size ∙ l.bytes; readings = l.readings }
+      put_readings : (f : Option Filled) → PutBehind ds f a a₁ → a₁.readings ≡ a.readings
+      put_readings None e = rw e
+      put_readings (Some f) e = e.2
+
+      kept : (f : Option Filled)
+          → FewIf f
+          → PutBehind ds f a a₁
+          → kept_by (more_if f (length (values ds)) 0) (stored f a₁ 1 (length (values ds))) ≡ add (kept_by f a) (writes (values ds))
+      kept None h e = refl
+      kept (Some f) h e =
+          rw (e.0, e.1, e.2) (kept_write f a h l a₁.bytes (values ds) e.3.below
+          (λ k. rw (length_values ds) (e.3.stored (omega (arith, length_values ds, l.bytes)))))
 
   pub enters_unpaired : (ds : List ℕ)
       → whole_pairs ds ≡ false
@@ -172,11 +191,11 @@ module _ (o : Option Open) (s : SlaveState) (a : Arrays) (at : ℕ) (out : List 
 
   pub enters_reading : (v : ℕ)
       → EnteredAs (reading_entered o s at)
-      (arrays a.kinds a.lengths a.bytes (set a.readings (counts_of o).readings v)) out at out
+      (with_reading (counts_of o).readings a v) out at out
       (next_held (session_of o s a) (reading v))
   enters_reading v = by o g
     where
-      stored_reading : (n : ℕ) → Lent (arrays a.kinds a.lengths a.bytes (set a.readings n v))
+      stored_reading : (n : ℕ) → Lent (with_reading n a v)
       stored_reading n = record {
         kinds = l.kinds;
         lengths = l.lengths;
@@ -187,7 +206,7 @@ module _ (o : Option Open) (s : SlaveState) (a : Arrays) (at : ℕ) (out : List 
       by : (p : Option Open)
           → Small p
           → EnteredAs (reading_entered p s at)
-          (arrays a.kinds a.lengths a.bytes (set a.readings (counts_of p).readings v)) out at out
+          (with_reading (counts_of p).readings a v) out at out
           (next_held (session_of p s a) (reading v))
       by None h = refused (stored_reading 0)
       by (Some p) h = go (complete p.wants) (ltb p.counts.readings MOST_READINGS) refl refl
@@ -197,7 +216,7 @@ module _ (o : Option Open) (s : SlaveState) (a : Arrays) (at : ℕ) (out : List 
 
           go : (c d : Bool) → complete p.wants ≡ c → ltb p.counts.readings MOST_READINGS ≡ d
               → EnteredAs (reading_entered (Some p) s at)
-              (arrays a.kinds a.lengths a.bytes (set a.readings p.counts.readings v)) out at out
+              (with_reading p.counts.readings a v) out at out
               (next_held (session_of (Some p) s a) (reading v))
           go false d f k = rw f (refused (stored_reading p.counts.readings))
           go true false f k = rw (f, count, k) (refused (stored_reading p.counts.readings))
@@ -205,14 +224,13 @@ module _ (o : Option Open) (s : SlaveState) (a : Arrays) (at : ℕ) (out : List 
               let less : p.counts.readings < MOST_READINGS = ltb-true _ _ k in
               rw (f, count, k) (
               silent (Some (opened p.call Nothing (one_reading p.counts))) s _
-              (rw (add-one, take-suc-set a.readings p.counts.readings v (omega (arith, l.readings))))
+              (rw (
+                add-one,
+                take-suc-set a.readings p.counts.readings v (omega (arith, l.readings)),
+                kept_reading p.counts.filled a p.counts.readings v,
+              ))
               (busy p.call Nothing (one_reading p.counts)
-              (record {
-                ops = h.counts.ops;
-                bytes = h.counts.bytes;
-                reads = h.counts.reads;
-                readings = omega arith;
-              }))
+              (record { filled = h.counts.filled; readings = omega arith }))
               (stored_reading p.counts.readings)
               )
 

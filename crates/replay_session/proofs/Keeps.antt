@@ -11,12 +11,14 @@ use lib.ListN.{length, take, set, length-append, length-set}
 use lib.Seq.{take-suc-set, length-take-le}
 use borrow.Author.Tests.{ltb-false}
 use Rattle.regs.proofs.Tests.{false_true}
-use Rattle.std.specs.Prelude.{if◌then◌else◌}
+use Rattle.std.specs.Prelude.{if◌then◌else◌, Option, Some, None}
 use Rattle.master.specs.Operations.{writes, reads}
 use Rattle.replay_calls.specs.Calls.{listed}
 use Rattle.replay_session.specs.Inner.Bounded.{over, add}
-use Rattle.replay_session.specs.Inner.Enter.{Arrays, arrays, kept_of, Within, Lent, over_of, too_many, added_to}
+use Rattle.replay_session.specs.Inner.Enter.{Arrays, arrays, kept_by, kept_of, Few, FewIf, Within, Lent, over_of}
+use Rattle.replay_session.specs.Inner.Enter.{too_many, more, more_if, added_to, stored, with_reading}
 use Rattle.replay_session.specs.declared.Counts.{Counts}
+use Rattle.replay_session.specs.declared.Filled.{Filled}
 use Rattle.replay_session.proofs.Bound.{add_wide}
 
 -- none of three tests
@@ -26,169 +28,129 @@ none_of false true c e = absurd (false_true (sym e))
 none_of false false true e = absurd (false_true (sym e))
 none_of false false false e = (refl, refl, refl)
 
--- what a test chooses
-yes : (g : Bool) (x y : Counts) → g ≡ true → (if g then x else y) ≡ x
-yes true x y e = refl
-yes false x y e = absurd (false_true e)
-
-no : (g : Bool) (x y : Counts) → g ≡ false → (if g then x else y) ≡ y
-no false x y e = refl
-no true x y e = absurd (false_true (sym e))
-
-module _ (n : Counts) (k m : ℕ) where
-  pub added_large : n.large ≡ true → added_to n k m ≡ n
-  unfolding added_to
-  added_large e = yes n.large n _ e
-
-  pub added_over : n.large ≡ false → too_many n k m ≡ true → added_to n k m ≡ over_of n
-  unfolding added_to
-  added_over e f = no n.large n _ e ∙ yes (too_many n k m) (over_of n) _ f
-
-  pub added_one : n.large ≡ false
-      → too_many n k m ≡ false
-      → added_to n k m ≡ record {
-        large = false;
-        ops = n.ops + 1;
-        bytes = n.bytes + k;
-        reads = n.reads + m;
-        readings = n.readings;
-      }
-  unfolding added_to
-  added_one e f = no n.large n _ e ∙ no (too_many n k m) (over_of n) _ f
+more_few : (f : Filled) → Few f → (k m : ℕ) → FewIf (more f k m)
+unfolding more
+more_few f h k m = go (too_many f k m) refl
+  where
+    go : (t : Bool)
+        → too_many f k m ≡ t
+        → FewIf (if t then None else Some (record { ops = f.ops + 1; bytes = f.bytes + k; reads = f.reads + m }))
+    go true e = tt
+    go false e =
+        let g = none_of (ltb 64 (f.ops + 1)) (ltb 4096 (f.bytes + k)) (ltb 4096 (f.reads + m)) e in
+        record {
+          ops = ltb-false 64 (f.ops + 1) g.0;
+          bytes = ltb-false 4096 (f.bytes + k) g.1;
+          reads = ltb-false 4096 (f.reads + m) g.2;
+        }
 
 module _ (n : Counts) (h : Within n) where
   pub added_within : (k m : ℕ) → Within (added_to n k m)
-  unfolding added_to
-  added_within k m = go n.large (too_many n k m) refl
+  added_within k m = record { filled = go n.filled h.filled; readings = h.readings }
     where
-      go : (g t : Bool) → too_many n k m ≡ t
-          → Within (if g then n else
-          (if t then over_of n else
-          record {
-            large = false;
-            ops = n.ops + 1;
-            bytes = n.bytes + k;
-            reads = n.reads + m;
-            readings = n.readings;
-          }))
-      go true t e = h
-      go false true e = record { ops = h.ops; bytes = h.bytes; reads = h.reads; readings = h.readings }
-      go false false e =
-          let f = none_of (ltb 64 (n.ops + 1)) (ltb 4096 (n.bytes + k)) (ltb 4096 (n.reads + m)) e in
-          record {
-            ops = ltb-false 64 (n.ops + 1) f.0;
-            bytes = ltb-false 4096 (n.bytes + k) f.1;
-            reads = ltb-false 4096 (n.reads + m) f.2;
-            readings = h.readings;
-          }
-
-  pub added_readings : (k m : ℕ) → (added_to n k m).readings ≡ n.readings
-  unfolding added_to
-  added_readings k m = go n.large (too_many n k m)
-    where
-      go : (g t : Bool)
-          → (if g then n else (if t then over_of n else
-          record {
-            large = false;
-            ops = n.ops + 1;
-            bytes = n.bytes + k;
-            reads = n.reads + m;
-            readings = n.readings;
-          })).readings
-          ≡ n.readings
-      go true t = refl
-      go false true = refl
-      go false false = refl
+      go : (f : Option Filled) → FewIf f → FewIf (more_if f k m)
+      go None g = tt
+      go (Some f) g = more_few f g k m
 
   pub over_within : Within (over_of n)
-  over_within = record { ops = h.ops; bytes = h.bytes; reads = h.reads; readings = h.readings }
+  over_within = record { filled = tt; readings = h.readings }
 
--- the slices with an operation's kind and length stored
-abbrev pub stored : Counts → Arrays → ℕ → ℕ → Arrays
-stored n a kind len = arrays (set a.kinds n.ops kind) (set a.lengths n.ops len) a.bytes a.readings
+pub stored_lent : (f : Option Filled) (a : Arrays) → Lent a → (kind len : ℕ) → Lent (stored f a kind len)
+stored_lent None a l kind len = l
+stored_lent (Some f) a l kind len =
+    record {
+      kinds = length-set a.kinds f.ops kind ∙ l.kinds;
+      lengths = length-set a.lengths f.ops len ∙ l.lengths;
+      bytes = l.bytes;
+      readings = l.readings;
+    }
 
-module _ (n : Counts) (a : Arrays) (h : Within n) (l : Lent a) where
-  pub stored_lent : (kind len : ℕ) → Lent (stored n a kind len)
-  stored_lent kind len =
-      record {
-        kinds = length-set a.kinds n.ops kind ∙ l.kinds;
-        lengths = length-set a.lengths n.ops len ∙ l.lengths;
-        bytes = l.bytes;
-        readings = l.readings;
-      }
+-- the readings are not touched
+pub stored_readings : (f : Option Filled) (a : Arrays) (kind len : ℕ) → (stored f a kind len).readings ≡ a.readings
+stored_readings None a kind len = refl
+stored_readings (Some f) a kind len = refl
 
-  kinds_kept : length (take n.ops a.kinds) ≡ n.ops
-  kinds_kept = length-take-le n.ops a.kinds (omega (arith, h.ops, l.kinds))
+module _ (f : Filled) (a : Arrays) (h : Few f) (l : Lent a) where
+  kinds_kept : length (take f.ops a.kinds) ≡ f.ops
+  kinds_kept = length-take-le f.ops a.kinds (omega (arith, h.ops, l.kinds))
 
-  bytes_kept : length (take n.bytes a.bytes) ≡ n.bytes
-  bytes_kept = length-take-le n.bytes a.bytes (omega (arith, h.bytes, l.bytes))
+  bytes_kept : length (take f.bytes a.bytes) ≡ f.bytes
+  bytes_kept = length-take-le f.bytes a.bytes (omega (arith, h.bytes, l.bytes))
 
-  one_kind : length (take n.ops a.kinds) ≡ n.ops → (kind : ℕ) → length (take n.ops a.kinds ++ (kind ∷ [])) ≡ n.ops + 1
-  one_kind e kind = length-append (take n.ops a.kinds) (kind ∷ []) ∙ rw e
+  one_kind : length (take f.ops a.kinds) ≡ f.ops → (kind : ℕ) → length (take f.ops a.kinds ++ (kind ∷ [])) ≡ f.ops + 1
+  one_kind e kind = length-append (take f.ops a.kinds) (kind ∷ []) ∙ rw e
 
-  kind_stored : ltb 64 (n.ops + 1) ≡ false
+  kind_stored : ltb 64 (f.ops + 1) ≡ false
       → (kind : ℕ)
-      → take (n.ops + 1) (set a.kinds n.ops kind) ≡ take n.ops a.kinds ++ (kind ∷ [])
-  kind_stored e kind = rw add-one (take-suc-set a.kinds n.ops kind (omega (arith, ltb-false 64 (n.ops + 1) e, l.kinds)))
+      → take (f.ops + 1) (set a.kinds f.ops kind) ≡ take f.ops a.kinds ++ (kind ∷ [])
+  kind_stored e kind = rw add-one (take-suc-set a.kinds f.ops kind (omega (arith, ltb-false 64 (f.ops + 1) e, l.kinds)))
 
-  length_stored : ltb 64 (n.ops + 1) ≡ false
+  length_stored : ltb 64 (f.ops + 1) ≡ false
       → (len : ℕ)
-      → take (n.ops + 1) (set a.lengths n.ops len) ≡ take n.ops a.lengths ++ (len ∷ [])
-  length_stored e len = rw add-one (take-suc-set a.lengths n.ops len (omega (arith, ltb-false 64 (n.ops + 1) e, l.lengths)))
+      → take (f.ops + 1) (set a.lengths f.ops len) ≡ take f.ops a.lengths ++ (len ∷ [])
+  length_stored e len = rw add-one (take-suc-set a.lengths f.ops len (omega (arith, ltb-false 64 (f.ops + 1) e, l.lengths)))
 
   -- a write of bytes that were put behind those of the call, as far as there was room
   pub kept_write : (bytes' bs : List ℕ)
-      → take n.bytes bytes' ≡ take n.bytes a.bytes
-      → (n.bytes + length bs ≤ 4096 → take (n.bytes + length bs) bytes' ≡ take n.bytes a.bytes ++ bs)
-      → kept_of (added_to n (length bs) 0)
-      (stored n (arrays a.kinds a.lengths bytes' a.readings) 1 (length bs))
-      ≡ add (kept_of n a) (writes bs)
-  unfolding added_to
-  kept_write bytes' bs below f = go n.large (too_many n (length bs) 0) refl refl
+      → take f.bytes bytes' ≡ take f.bytes a.bytes
+      → (f.bytes + length bs ≤ 4096 → take (f.bytes + length bs) bytes' ≡ take f.bytes a.bytes ++ bs)
+      → kept_by (more f (length bs) 0) (stored (Some f) (arrays a.kinds a.lengths bytes' a.readings) 1 (length bs))
+      ≡ add (kept_by (Some f) a) (writes bs)
+  unfolding more
+  kept_write bytes' bs below put = go (too_many f (length bs) 0) refl
     where
-      joined : length (take n.bytes a.bytes ++ bs) ≡ n.bytes + length bs
-      joined = length-append (take n.bytes a.bytes) bs ∙ rw bytes_kept
+      joined : length (take f.bytes a.bytes ++ bs) ≡ f.bytes + length bs
+      joined = length-append (take f.bytes a.bytes) bs ∙ rw bytes_kept
 
-      same : over (listed (take n.ops a.kinds ++ (1 ∷ [])) (take n.ops a.lengths ++ (length bs ∷ []))
-          (take n.bytes a.bytes ++ bs) n.reads)
-          ≡ too_many n (length bs) 0
+      same : over (listed (take f.ops a.kinds ++ (1 ∷ [])) (take f.ops a.lengths ++ (length bs ∷ []))
+          (take f.bytes a.bytes ++ bs) f.reads)
+          ≡ too_many f (length bs) 0
       same = rw (one_kind kinds_kept 1, joined, add-zero)
 
-      go : (g t : Bool) → n.large ≡ g → too_many n (length bs) 0 ≡ t
-          → kept_of (added_to n (length bs) 0)
-          (stored n (arrays a.kinds a.lengths bytes' a.readings) 1 (length bs))
-          ≡ add (kept_of n a) (writes bs)
-      go true t eg et = rw eg
-      go false true eg et = rw (eg, et, same ∙ et)
-      go false false eg et =
-          let no = none_of (ltb 64 (n.ops + 1)) (ltb 4096 (n.bytes + length bs)) (ltb 4096 (n.reads + 0)) et in
+      go : (t : Bool) → too_many f (length bs) 0 ≡ t
+          → kept_by (more f (length bs) 0) (stored (Some f) (arrays a.kinds a.lengths bytes' a.readings) 1 (length bs))
+          ≡ add (kept_by (Some f) a) (writes bs)
+      go true et = rw (et, same ∙ et)
+      go false et =
+          let no = none_of (ltb 64 (f.ops + 1)) (ltb 4096 (f.bytes + length bs)) (ltb 4096 (f.reads + 0)) et in
           rw (
-            eg,
             et,
             same ∙ et,
             kind_stored no.0 1,
             length_stored no.0 (length bs),
-            f (ltb-false 4096 (n.bytes + length bs) no.1),
+            put (ltb-false 4096 (f.bytes + length bs) no.1),
             add-zero,
           )
 
-  -- a write of more bytes than any call may have
-  pub kept_wide : (bs : List ℕ) → 4096 < length bs → kept_of (over_of n) a ≡ add (kept_of n a) (writes bs)
-  kept_wide bs h = sym (add_wide (kept_of n a) bs h)
-
   -- a read of m bytes
-  pub kept_read : (m : ℕ) → kept_of (added_to n 0 m) (stored n a 0 m) ≡ add (kept_of n a) (reads m)
-  unfolding added_to
-  kept_read m = go n.large (too_many n 0 m) refl refl
+  pub kept_read : (m : ℕ) → kept_by (more f 0 m) (stored (Some f) a 0 m) ≡ add (kept_by (Some f) a) (reads m)
+  unfolding more
+  kept_read m = go (too_many f 0 m) refl
     where
-      same : over (listed (take n.ops a.kinds ++ (0 ∷ [])) (take n.ops a.lengths ++ (m ∷ []))
-          (take n.bytes a.bytes) (n.reads + m))
-          ≡ too_many n 0 m
+      same : over (listed (take f.ops a.kinds ++ (0 ∷ [])) (take f.ops a.lengths ++ (m ∷ []))
+          (take f.bytes a.bytes) (f.reads + m))
+          ≡ too_many f 0 m
       same = rw (one_kind kinds_kept 0, bytes_kept, add-zero)
 
-      go : (g t : Bool) → n.large ≡ g → too_many n 0 m ≡ t → kept_of (added_to n 0 m) (stored n a 0 m) ≡ add (kept_of n a) (reads m)
-      go true t eg et = rw eg
-      go false true eg et = rw (eg, et, same ∙ et)
-      go false false eg et =
-          let no = none_of (ltb 64 (n.ops + 1)) (ltb 4096 (n.bytes + 0)) (ltb 4096 (n.reads + m)) et in
-          rw (eg, et, same ∙ et, kind_stored no.0 0, length_stored no.0 m, add-zero)
+      go : (t : Bool)
+          → too_many f 0 m ≡ t
+          → kept_by (more f 0 m) (stored (Some f) a 0 m) ≡ add (kept_by (Some f) a) (reads m)
+      go true et = rw (et, same ∙ et)
+      go false et =
+          let no = none_of (ltb 64 (f.ops + 1)) (ltb 4096 (f.bytes + 0)) (ltb 4096 (f.reads + m)) et in
+          rw (et, same ∙ et, kind_stored no.0 0, length_stored no.0 m, add-zero)
+
+-- a read, whether or not the operations before it are within the limits
+pub kept_read_if : (f : Option Filled) (a : Arrays) → FewIf f → Lent a → (m : ℕ)
+    → kept_by (more_if f 0 m) (stored f a 0 m) ≡ add (kept_by f a) (reads m)
+kept_read_if None a h l m = refl
+kept_read_if (Some f) a h l m = kept_read f a h l m
+
+-- a reading is kept beside the operations
+pub kept_reading : (f : Option Filled) (a : Arrays) (n v : ℕ) → kept_by f (with_reading n a v) ≡ kept_by f a
+kept_reading None a n v = refl
+kept_reading (Some f) a n v = refl
+
+-- a write of more bytes than any call may have
+pub kept_wide : (n : Counts) (a : Arrays) (bs : List ℕ) → 4096 < length bs → kept_of (over_of n) a ≡ add (kept_of n a) (writes bs)
+kept_wide n a bs h = sym (add_wide (kept_of n a) bs h)

@@ -1,12 +1,12 @@
 // A line that ends in bytes, entered.
 ghost use Rattle.std.specs.Prelude.{◌≡◌, length, ◌≤◌};
-ghost use Rattle.replay_session.specs.Inner.Enter.{Small, PairsAs, longest_kept};
+ghost use Rattle.replay_session.specs.Inner.Enter.{Small, PairsAs, SameLists, arrays_of, longest_kept};
 
 use super::enter::enter_bytes;
-use super::{Entered, Malformed, Open, counts_of};
+use super::{Entered, Lists, Malformed, Open, counts_of};
 use replay_frames::Line;
 use slave::SlaveState;
-use text_hex::digits::{is_pairs, put_bytes};
+use text_hex::digits::is_pairs;
 
 // `ds` are the digits of the bytes.
 pub fn enter_pairs(
@@ -14,20 +14,17 @@ pub fn enter_pairs(
     ds: &[u8],
     call: Option<Open>,
     s: SlaveState,
-    kinds: &mut [u8],
-    lengths: &mut [u16],
-    bytes: &mut [u8],
+    lists: &mut Lists,
     at: usize,
 ) -> Result<Entered, Malformed>
-    requires { Small call
-        × (length bytes.old ≡ 4096)
-        × (length ds.now ≤ longest_kept) }
-    ensures { PairsAs l ds.now call s kinds.old lengths.old
-        bytes.old kinds.new lengths.new bytes.new at result }
+    requires small { Small call }
+    requires few { length ds.now ≤ longest_kept }
+    ensures same { SameLists lists.old lists.new }
+    ensures entered { PairsAs l ds.now call s (arrays_of lists.old) (arrays_of lists.new) at result }
 {
     if is_pairs(ds) {
-        put_bytes(ds, bytes, counts_of(call).bytes);
-        return enter_bytes(l, ds.len() / 2, call, s, kinds, lengths, at);
+        lists.put_pairs(counts_of(call).filled, ds);
+        return enter_bytes(l, ds.len() / 2, call, s, lists, at);
     }
     Err(Malformed)
 }

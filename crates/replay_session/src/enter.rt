@@ -1,11 +1,10 @@
 // What each frame does to the open call.
-ghost use Rattle.std.specs.Prelude.{◌≡◌, ◌≤◌, set};
+ghost use Rattle.std.specs.Prelude.{◌≡◌, ◌≤◌};
 ghost use Rattle.replay_session.specs.Inner.Enter.{Small, longest_kept, over_of, added_to, counts_of};
 ghost use Rattle.replay_session.specs.Inner.Enter.{call_entered, read_entered, taken_by};
-ghost use Rattle.replay_session.specs.Inner.Enter.{bytes_entered, reading_entered};
+ghost use Rattle.replay_session.specs.Inner.Enter.{bytes_entered, reading_entered, SameLists, arrays_of, stored, with_reading};
 
-use super::store::put;
-use super::{Counts, Entered, Malformed, Open, Wants, counts_of, taken_by};
+use super::{Counts, Entered, Lists, Malformed, Open, Wants, counts_of, taken_by};
 use replay_calls::Call;
 use replay_frames::Line;
 use slave::SlaveState;
@@ -37,18 +36,16 @@ pub fn enter_read(
     m: u16,
     call: Option<Open>,
     s: SlaveState,
-    kinds: &mut [u8],
-    lengths: &mut [u16],
+    lists: &mut Lists,
     at: usize,
 ) -> Result<Entered, Malformed>
     requires { Small call }
-    ensures { (result ≡ read_entered m call s at)
-        × (kinds.new ≡ set kinds.old (counts_of call).ops 0)
-        × (lengths.new ≡ set lengths.old (counts_of call).ops m) }
+    ensures entered { result ≡ read_entered m call s at }
+    ensures same { SameLists lists.old lists.new }
+    ensures put { arrays_of lists.new ≡ stored (counts_of call).filled (arrays_of lists.old) 0 m }
 {
     let n = counts_of(call);
-    put(kinds, n.ops, 0);
-    put(lengths, n.ops, m);
+    lists.put_operation(n.filled, 0, m);
     let o = call.ok_or(Malformed)?;
     let wants = o.wants.after_read().ok_or(Malformed)?;
     Ok(Entered {
@@ -82,19 +79,17 @@ pub fn enter_bytes(
     k: usize,
     call: Option<Open>,
     s: SlaveState,
-    kinds: &mut [u8],
-    lengths: &mut [u16],
+    lists: &mut Lists,
     at: usize,
 ) -> Result<Entered, Malformed>
-    requires { Small call
-        × (k ≤ longest_kept) }
-    ensures { (result ≡ bytes_entered (taken_by l call (added_to (counts_of call) k 0)) s at)
-        × (kinds.new ≡ set kinds.old (counts_of call).ops 1)
-        × (lengths.new ≡ set lengths.old (counts_of call).ops k) }
+    requires small { Small call }
+    requires few { k ≤ longest_kept }
+    ensures entered { result ≡ bytes_entered (taken_by l call (added_to (counts_of call) k 0)) s at }
+    ensures same { SameLists lists.old lists.new }
+    ensures put { arrays_of lists.new ≡ stored (counts_of call).filled (arrays_of lists.old) 1 k }
 {
     let n = counts_of(call);
-    put(kinds, n.ops, 1);
-    put(lengths, n.ops, k as u16);
+    lists.put_operation(n.filled, 1, k as u16);
     enter_taken(taken_by(l, call, n.added(k, 0)), s, at)
 }
 
@@ -114,14 +109,15 @@ pub fn enter_reading(
     word: u32,
     call: Option<Open>,
     s: SlaveState,
-    readings: &mut [u32],
+    lists: &mut Lists,
     at: usize,
 ) -> Result<Entered, Malformed>
-    ensures { (result ≡ reading_entered call s at)
-        × (readings.new ≡ set readings.old (counts_of call).readings word) }
+    ensures entered { result ≡ reading_entered call s at }
+    ensures same { SameLists lists.old lists.new }
+    ensures put { arrays_of lists.new ≡ with_reading (counts_of call).readings (arrays_of lists.old) word }
 {
     let n = counts_of(call);
-    put(readings, n.readings, word);
+    lists.put_reading(n.readings, word);
     let o = call.ok_or(Malformed)?;
     if o.wants.is_complete() && n.readings < replay_calls::MOST_READINGS {
         return Ok(Entered {

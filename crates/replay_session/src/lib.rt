@@ -24,14 +24,28 @@ pub enum Wants {
     Any,
 }
 
-// How much of each lent slice the open call has filled, or that its operations are beyond the limits.
+// How much of the lent slices the operations of the open call have filled, and how many bytes they read.
 #[derive(Clone, Copy)]
-pub struct Counts {
-    pub large: bool,
+pub struct Filled {
     pub ops: usize,
     pub bytes: usize,
     pub reads: usize,
+}
+
+// The same, if the operations are within the limits, and how many readings the call has.
+#[derive(Clone, Copy)]
+pub struct Counts {
+    pub filled: Option<Filled>,
     pub readings: usize,
+}
+
+// The slices that are lent for the operations and the readings of the open call.
+#[derive(Drop)]
+pub struct Lists<'a> {
+    pub kinds: &'a mut [u8],
+    pub lengths: &'a mut [u16],
+    pub bytes: &'a mut [u8],
+    pub readings: &'a mut [u32],
 }
 
 // A call that is open.

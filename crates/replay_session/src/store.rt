@@ -1,19 +1,43 @@
 // How far the lent slices are filled, and the stores into them.
-ghost use Rattle.std.specs.Prelude.{◌≡◌, ◌≤◌, set};
-ghost use Rattle.replay_session.specs.Inner.Enter.{no_counts, over_of, too_many, added_to, one_reading};
-ghost use Rattle.replay_session.specs.Inner.Enter.{Within};
+ghost use Rattle.std.specs.Prelude.{◌≡◌, ◌≤◌, true, set};
+ghost use Rattle.text_hex.specs.Pairs.{whole_pairs};
+ghost use Rattle.replay_session.specs.Inner.Enter.{no_counts, over_of, more, added_to, one_reading};
+ghost use Rattle.replay_session.specs.Inner.Enter.{Few, FewIf, Within, SameLists, arrays_of, stored, with_reading, PutBehind};
 
-use super::Counts;
+use super::{Counts, Filled, Lists};
+use text_hex::digits::put_bytes;
+
+impl Filled {
+    // With one more operation, of b bytes to write and m to read, unless that is beyond the limits.
+    #[tactic(auto, unfolding(crate::specs::Inner::Enter::more))]
+    fn added(self, b: usize, m: usize) -> Option<Filled>
+        requires few { Few self }
+        requires bytes { b ≤ 65535 }
+        requires reads { m ≤ 65535 }
+        ensures { result ≡ more self b m }
+    {
+        if (64 < self.ops + 1) | (4096 < self.bytes + b) | (4096 < self.reads + m) {
+            return None;
+        }
+        Some(Filled {
+            ops: self.ops + 1,
+            bytes: self.bytes + b,
+            reads: self.reads + m,
+        })
+    }
+}
 
 impl Counts {
     pub fn none() -> Counts
         ensures { result ≡ no_counts }
     {
-        Counts {
-            large: false,
+        let filled = Filled {
             ops: 0,
             bytes: 0,
             reads: 0,
+        };
+        Counts {
+            filled: Some(filled),
             readings: 0,
         }
     }
@@ -22,39 +46,24 @@ impl Counts {
         ensures { result ≡ over_of self }
     {
         Counts {
-            large: true,
+            filled: None,
             ..self
         }
-    }
-
-    fn is_too_many(self, b: usize, m: usize) -> bool
-        requires { Within self
-            × (b ≤ 65535)
-            × (m ≤ 65535) }
-        ensures { result ≡ too_many self b m }
-    {
-        (64 < self.ops + 1) | ((4096 < self.bytes + b) | (4096 < self.reads + m))
     }
 
     // One more operation, of b bytes to write and m to read.
-    #[tactic(auto, unfolding(crate::specs::Inner::Enter::added_to))]
     pub fn added(self, b: usize, m: usize) -> Counts
-        requires { Within self
-            × (b ≤ 65535)
-            × (m ≤ 65535) }
+        requires within { Within self }
+        requires bytes { b ≤ 65535 }
+        requires reads { m ≤ 65535 }
         ensures { result ≡ added_to self b m }
     {
-        if self.large {
-            return self;
-        }
-        if self.is_too_many(b, m) {
-            return self.over();
-        }
-        Counts {
-            ops: self.ops + 1,
-            bytes: self.bytes + b,
-            reads: self.reads + m,
-            ..self
+        match self.filled {
+            Some(filled) => Counts {
+                filled: filled.added(b, m),
+                ..self
+            },
+            None => self,
         }
     }
 
@@ -66,6 +75,39 @@ impl Counts {
             readings: self.readings + 1,
             ..self
         }
+    }
+}
+
+impl<'a> Lists<'a> {
+    // An operation of this kind and length, where the operations are within the limits.
+    pub fn put_operation(&mut self, filled: Option<Filled>, kind: u8, length: u16)
+        ensures same { SameLists self.old self.new }
+        ensures put { arrays_of self.new ≡ stored filled (arrays_of self.old) kind length }
+    {
+        if let Some(filled) = filled {
+            put(self.kinds, filled.ops, kind);
+            put(self.lengths, filled.ops, length);
+        }
+    }
+
+    // The bytes that pairs of digits write, behind those of the call.
+    pub fn put_pairs(&mut self, filled: Option<Filled>, ds: &[u8])
+        requires pairs { whole_pairs ds.now ≡ true }
+        requires few { FewIf filled }
+        ensures same { SameLists self.old self.new }
+        ensures put { PutBehind ds.now filled (arrays_of self.old) (arrays_of self.new) }
+    {
+        if let Some(filled) = filled {
+            put_bytes(ds, self.bytes, filled.bytes);
+        }
+    }
+
+    // A reading.
+    pub fn put_reading(&mut self, at: usize, word: u32)
+        ensures same { SameLists self.old self.new }
+        ensures put { arrays_of self.new ≡ with_reading at (arrays_of self.old) word }
+    {
+        put(self.readings, at, word);
     }
 }
 

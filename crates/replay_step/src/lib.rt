@@ -2,61 +2,41 @@
 #![tactic(auto)]
 
 ghost use Rattle.std.specs.Prelude.{◌≡◌, false, [], ◌∷◌, ◌+◌, ◌<◌, ◌≤◌, length};
-ghost use Rattle.replay_calls.specs.Inner.Runs.{MOST_TEXT};
-ghost use Rattle.replay_state.specs.Inner.Rest.{whole, Sound, Went, begun_of};
+ghost use Rattle.replay_calls.specs.Inner.Runs.{MOST_TEXT, SameSpace};
+ghost use Rattle.replay_session.specs.Inner.Enter.{SameLists};
+ghost use Rattle.replay_state.specs.Inner.Rest.{reader_of, Sound, Went, begun_of};
 ghost use Rattle.replay_scan.specs.Inner.StepsOn.{StepsOn};
 
+use replay_calls::Workspace;
 use replay_enter::enter_line;
 use replay_scan::ahead::fresh_line;
 use replay_scan::{Fed, some};
+use replay_session::Lists;
 use replay_state::turns::{end_line, end_long};
 use replay_state::{Part, State, Turn};
 
 // An LF: it enters the line that it ends.
-pub fn line_feed(
-    s: State,
-    text: &[u8],
-    kinds: &mut [u8],
-    lengths: &mut [u16],
-    bytes: &mut [u8],
-    readings: &mut [u32],
-    buffer: &mut [u8],
-    log: &mut [u32],
-    out: &mut [u8],
-    at: usize,
-) -> Turn
-    requires { Sound
-        (whole s text.now kinds.old lengths.old bytes.old readings.old buffer.old log.old)
-        × (at + MOST_TEXT ≤ length out.old) }
-    ensures { Went
-        (whole s text.now kinds.old lengths.old bytes.old
-        readings.old buffer.old log.old)
-        out.old at (10 ∷ [])
-        (whole result.state text.now kinds.new lengths.new bytes.new
-        readings.new buffer.new log.new)
-        out.new result.made []
+pub fn line_feed(s: State, text: &[u8], lists: &mut Lists, work: &mut Workspace, at: usize) -> Turn
+    requires sound { Sound
+        (reader_of s text.now lists.old work.old) }
+    requires room { at + MOST_TEXT ≤ length work.old.out.now }
+    ensures same { SameLists lists.old lists.new }
+    ensures same_space { SameSpace work.old work.new }
+    ensures went { Went
+        (reader_of s text.now lists.old work.old)
+        work.old.out.now at (10 ∷ [])
+        (reader_of result.state text.now lists.new work.new)
+        work.new.out.now result.made []
         × (result.made ≤ at + MOST_TEXT)
         × (begun_of result.state.part ≡ false) }
 {
     match s.part {
         Part::Stopped => Turn { state: s, made: at },
         Part::Text(n) => {
-            let e = enter_line(
-                &text[..n],
-                s.call,
-                s.slave,
-                kinds,
-                lengths,
-                bytes,
-                readings,
-                buffer,
-                log,
-                out,
-                at,
-            );
-            end_line(s.line, e, out, at)
+            let e = enter_line(&text[..n], s.call, s.slave, lists, work, at);
+            end_line(s.line, e, work.out, at)
         }
-        Part::Long(odd) => end_long(odd, s, text, out, at),
+        Part::Long(odd) => end_long(odd, s, text, work.out, at),
     }
 }
 
@@ -66,38 +46,31 @@ fn end_or_bytes(
     i: usize,
     s: State,
     text: &mut [u8],
-    kinds: &mut [u8],
-    lengths: &mut [u16],
-    bytes: &mut [u8],
-    readings: &mut [u32],
-    buffer: &mut [u8],
-    log: &mut [u32],
-    out: &mut [u8],
+    lists: &mut Lists,
+    work: &mut Workspace,
     at: usize,
 ) -> Fed
-    requires { Sound
-        (whole s text.old kinds.old lengths.old bytes.old readings.old buffer.old log.old)
-        × (at + MOST_TEXT ≤ length out.old)
-        × (i < length chunk.now) }
-    ensures { StepsOn
-        (whole s text.old kinds.old lengths.old bytes.old
-        readings.old buffer.old log.old)
-        out.old at chunk.now i
-        (whole result.state text.new kinds.new lengths.new bytes.new
-        readings.new buffer.new log.new)
-        out.new result }
+    requires sound { Sound
+        (reader_of s text.old lists.old work.old) }
+    requires room { at + MOST_TEXT ≤ length work.old.out.now }
+    requires inside { i < length chunk.now }
+    ensures same { SameLists lists.old lists.new }
+    ensures same_space { SameSpace work.old work.new }
+    ensures steps { StepsOn
+        (reader_of s text.old lists.old work.old)
+        work.old.out.now at chunk.now i
+        (reader_of result.state text.new lists.new work.new)
+        work.new.out.now result }
 {
     if chunk[i] == 10 {
-        let t = line_feed(
-            s, text, kinds, lengths, bytes, readings, buffer, log, out, at,
-        );
+        let t = line_feed(s, text, lists, work, at);
         return Fed {
             state: t.state,
             used: i + 1,
             made: t.made,
         };
     }
-    some(chunk, i, s, text, out, at)
+    some(chunk, i, s, text, work.out, at)
 }
 
 // A whole line of the chunk, where one is ahead, or else the end of a line or some bytes.
@@ -106,47 +79,28 @@ pub fn line_or_bytes(
     i: usize,
     s: State,
     text: &mut [u8],
-    kinds: &mut [u8],
-    lengths: &mut [u16],
-    bytes: &mut [u8],
-    readings: &mut [u32],
-    buffer: &mut [u8],
-    log: &mut [u32],
-    out: &mut [u8],
+    lists: &mut Lists,
+    work: &mut Workspace,
     at: usize,
 ) -> Fed
-    requires { Sound
-        (whole s text.old kinds.old lengths.old bytes.old readings.old buffer.old log.old)
-        × (at + MOST_TEXT ≤ length out.old)
-        × (i < length chunk.now) }
-    ensures { StepsOn
-        (whole s text.old kinds.old lengths.old bytes.old
-        readings.old buffer.old log.old)
-        out.old at chunk.now i
-        (whole result.state text.new kinds.new lengths.new bytes.new
-        readings.new buffer.new log.new)
-        out.new result }
+    requires sound { Sound
+        (reader_of s text.old lists.old work.old) }
+    requires room { at + MOST_TEXT ≤ length work.old.out.now }
+    requires inside { i < length chunk.now }
+    ensures same { SameLists lists.old lists.new }
+    ensures same_space { SameSpace work.old work.new }
+    ensures steps { StepsOn
+        (reader_of s text.old lists.old work.old)
+        work.old.out.now at chunk.now i
+        (reader_of result.state text.new lists.new work.new)
+        work.new.out.now result }
 {
     let Some(n) = fresh_line(s.part, chunk, i) else {
-        return end_or_bytes(
-            chunk, i, s, text, kinds, lengths, bytes, readings, buffer, log, out, at,
-        );
+        return end_or_bytes(chunk, i, s, text, lists, work, at);
     };
     let end = i + n;
-    let e = enter_line(
-        &chunk[i..end],
-        s.call,
-        s.slave,
-        kinds,
-        lengths,
-        bytes,
-        readings,
-        buffer,
-        log,
-        out,
-        at,
-    );
-    let t = end_line(s.line, e, out, at);
+    let e = enter_line(&chunk[i..end], s.call, s.slave, lists, work, at);
+    let t = end_line(s.line, e, work.out, at);
     Fed {
         state: t.state,
         used: end + 1,

@@ -1,14 +1,18 @@
 -- What the run of a call is lent, and what it leaves. Contracts of inner functions cite this.
-use Rattle.std.specs.Prelude.{ℕ, Bool, List, ◌≡◌, replicate}
+use Rattle.std.specs.Prelude.{ℕ, ◌+◌, ◌≤◌, Bool, List, ◌≡◌, length, replicate}
 use Rattle.regs.specs.Program.{Outcome}
 use Rattle.regs.specs.declared.answers.Reply.{Reply}
 use Rattle.slave.specs.declared.SlaveState.{SlaveState}
 use Rattle.text_hex.specs.Appended.{Appended}
-use Rattle.replay_calls.specs.Calls.{Listed, replayed, transfer_of, buffer_of, lists_read, has_buffer, outcome_of, outcome_text}
+use Rattle.text_hex.specs.Added.{Added}
+use Rattle.text_hex.specs.declared.text.Text.{Text}
+use Rattle.replay_calls.specs.Calls.{Listed, listed, replayed, transfer_of, buffer_of, lists_read, has_buffer, outcome_of, outcome_text}
 use Rattle.slave.specs.I2cSlave.{listen_call}
 use Rattle.replay_calls.specs.declared.form.Form.{Form}
 use Rattle.replay_calls.specs.declared.Call.{Call}
 use Rattle.replay_calls.specs.declared.Done.{Done}
+use Rattle.replay_calls.specs.declared.Operations.{Operations}
+use Rattle.replay_calls.specs.declared.Workspace.{Workspace}
 
 -- the log's words, two for each entry
 abbrev pub LOG_WORDS : ℕ
@@ -18,22 +22,45 @@ LOG_WORDS = 16384
 abbrev pub MOST_TEXT : ℕ
 MOST_TEXT = 114704
 
--- a call has left the outcome o: its text is appended, and the slave's state is the one after it
-pub record Runs (buffered : Bool) (o : Outcome SlaveState Reply) (before : List ℕ) (at : ℕ) (after : List ℕ) (r : Done) : Type 0 where
-  pub text : Appended before at (outcome_text buffered o) MOST_TEXT after r.end
-  pub slave : r.slave ≡ o.state
+-- the operations as the definitions take them
+abbrev pub listed_of : Operations → Listed
+listed_of o = listed o.kinds.now o.lengths.now o.bytes.now o.room
+
+-- the slices that a run is lent have room for the largest answer from `at` on
+pub record Roomy (w : Workspace) (at : ℕ) : Type 0 where
+  pub buffer : length w.buffer.now ≡ 4096
+  pub log : length w.log.now ≡ LOG_WORDS
+  pub out : at + MOST_TEXT ≤ length w.out.now
+
+-- they are the same slices still
+pub record SameSpace (before after : Workspace) : Type 0 where
+  pub buffer : after.buffer.ghost_name ≡ before.buffer.ghost_name
+  pub log : after.log.ghost_name ≡ before.log.ghost_name
+  pub out : after.out.ghost_name ≡ before.out.ghost_name
+  pub buffer_length : length after.buffer.now ≡ length before.buffer.now
+  pub log_length : length after.log.now ≡ length before.log.now
+  pub out_length : length after.out.now ≡ length before.out.now
+
+-- a call has left the outcome o: its text is added, and the slave's state is the one after it
+pub record Runs (buffered : Bool) (o : Outcome SlaveState Reply) (before after : Text) (s : SlaveState) : Type 0 where
+  pub text : Added before (outcome_text buffered o) MOST_TEXT after
+  pub slave : s ≡ o.state
 
 -- a transfer has left its outcome
-abbrev pub Transferred : Form → ℕ → Listed → List ℕ → List ℕ → ℕ → List ℕ → ℕ → Type 0
-Transferred form address l readings before at after end =
-    Appended before at (outcome_text (lists_read l.kinds)
+abbrev pub Transferred : Form → ℕ → Listed → List ℕ → Text → Text → Type 0
+Transferred form address l readings before after =
+    Added before (outcome_text (lists_read l.kinds)
     (replayed (transfer_of form address l) readings (buffer_of form l) tt))
-    MOST_TEXT after end
+    MOST_TEXT after
 
 -- what a listen of n bytes leaves
 abbrev pub listened : ℕ → List ℕ → SlaveState → Outcome SlaveState Reply
 listened n readings s = replayed (listen_call n) readings (replicate n 0) s
 
 -- any call
-abbrev pub RanAs : Call → Listed → List ℕ → SlaveState → List ℕ → ℕ → List ℕ → Done → Type 0
-RanAs c l readings s before at after r = Runs (has_buffer c l) (outcome_of c l readings s) before at after r
+abbrev pub RanInto : Call → Listed → List ℕ → SlaveState → Text → Text → SlaveState → Type 0
+RanInto c l readings s before after r = Runs (has_buffer c l) (outcome_of c l readings s) before after r
+
+pub record RanAs (c : Call) (l : Listed) (readings : List ℕ) (s : SlaveState) (before : List ℕ) (at : ℕ) (after : List ℕ) (r : Done) : Type 0 where
+  pub text : Appended before at (outcome_text (has_buffer c l) (outcome_of c l readings s)) MOST_TEXT after r.end
+  pub slave : r.slave ≡ (outcome_of c l readings s).state

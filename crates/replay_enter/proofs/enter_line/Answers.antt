@@ -9,11 +9,11 @@ use Rattle.replay_enter.proofs.enter_line.Goals as goal
 pub slice_bounds-enter_pairs-count : goal.slice_bounds-enter_pairs-count
 slice_bounds-enter_pairs-count c = omega (arith, head_fits _ _ (sym c.head_of.ensures ∙ c.in-Some.is), c.width-w.ensures)
 
-pub returns-in-Some : goal.returns-in-Some
-returns-in-Some c = let a = c.args in
+pub returns-in-Some-clause-entered : goal.returns-in-Some-clause-entered
+returns-in-Some-clause-entered c = let a = c.args in
     rw (sym c.head_of.ensures ∙ c.in-Some.is)
     (rw (behind a.line.now c.width-w.result, c.width-w.ensures)
-    at (c.enter_pairs.ensures a.readings.now a.out.now c.requires.1))
+    at (c.enter_pairs.ensures.entered a.work.now.out.now c.requires.lent))
 
 pub slice_bounds-enter_pairs-start : goal.slice_bounds-enter_pairs-start
 slice_bounds-enter_pairs-start c =

@@ -4,9 +4,9 @@
 use native.Mathlib.Omega.{arith}
 use Rattle.replay_feed.proofs.step.Goals as goal
 
-pub returns-then-i-r : goal.returns-then-i-r
-returns-then-i-r c = rw c.after_run.ensures (
-  c.run_readings-r.ensures.some c.if-i-r.true _ _ _ _ _ _ _ _ c.requires.0,
+pub returns-then-i-r-clause-steps : goal.returns-then-i-r-clause-steps
+returns-then-i-r-clause-steps c = rw c.after_run.ensures (
+  c.run_readings-r.ensures.some c.if-i-r.true _ _ _ _ _ _ _ _ c.requires.sound,
   omega arith,
   c.if-i-r.true,
   c.run_readings-r.ensures.inside,

@@ -2,7 +2,7 @@
 use mathlib.Core.Bool.{false}
 use Rattle.clock_setting.specs.SetConfig.{set_config}
 use Rattle.clock_setting.proofs.Accesses.{every_access_legal}
-use Rattle.replay_calls.proofs.Prints.{room, prints_none}
+use Rattle.replay_calls.proofs.Prints.{room, prints_none, printed_as}
 use native.Mathlib.Omega.{arith}
 use Rattle.replay_run.proofs.set_config.Goals as goal
 
@@ -13,6 +13,5 @@ push_outcome-requires c = let l = c.set_config-ran in
 pub returns : goal.returns
 returns c = let a = c.args in
     let l = c.set_config-ran in
-    prints_none (set_config a.frequency a.clk) (every_access_legal a.frequency a.clk) a.log.now
-    a.readings.now tt c.requires.0 l.ensures l.auto.log false
-    c.push_outcome.ensures
+    printed_as c.push_outcome.ensures (prints_none (set_config a.frequency a.clk) (every_access_legal a.frequency a.clk)
+    a.log.now a.readings.now tt c.requires.0 l.ensures l.auto.log false c.push_outcome.ensures.appended)

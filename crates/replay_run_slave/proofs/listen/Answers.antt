@@ -6,12 +6,12 @@ use mathlib.Core.Bool.{true}
 use Rattle.slave.specs.I2cSlave.{listen_call}
 use Rattle.slave.specs.Calls.{listens}
 use Rattle.slave.proofs.Accesses.{every_access_legal}
-use Rattle.replay_calls.proofs.Prints.{room, prints, state_left}
+use Rattle.replay_calls.proofs.Prints.{room, prints, state_left, printed_as}
 use native.Mathlib.Omega.{arith}
 use Rattle.replay_run_slave.proofs.listen.Goals as goal
 
-pub push_outcome-end-requires : goal.push_outcome-end-requires
-push_outcome-end-requires c = let l = c.listen-l in
+pub push_outcome-requires : goal.push_outcome-requires
+push_outcome-requires c = let l = c.listen-l in
     room l.ensures.ran c.requires.1 l.auto.log _ _ _
     (omega (arith, c.requires.0, c.clear.auto.buffer, l.auto.buffer)) c.requires.2
 
@@ -20,11 +20,11 @@ returns c = let a = c.args in
     let l = c.listen-l in
     let b = c.clear.new.buffer in
     record {
-      text = rw (c.clear.ensures, length-replicate)
+      text = printed_as c.push_outcome.ensures (rw (c.clear.ensures, length-replicate)
           at (prints (listen_call (length b)) (every_access_legal (listens b)) a.log.now a.readings.now
           b a.s c.requires.1 l.ensures.ran l.auto.log true _ l.ensures.buffer
           (omega (arith, c.requires.0, c.clear.auto.buffer, l.auto.buffer))
-          c.push_outcome-end.ensures);
+          c.push_outcome.ensures.appended));
       slave = rw (c.clear.ensures, length-replicate)
           at (state_left (listen_call (length b)) (every_access_legal (listens b)) a.log.now
           a.readings.now b a.s c.requires.1 l.ensures.ran l.auto.log

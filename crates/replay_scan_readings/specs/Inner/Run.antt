@@ -77,7 +77,7 @@ abbrev pub ready_of : State → Bool
 ready_of s = ready_by s.part s.call
 
 abbrev pub with_readings : Counts → ℕ → Counts
-with_readings n count = record { large = n.large; ops = n.ops; bytes = n.bytes; reads = n.reads; readings = count }
+with_readings n count = record { filled = n.filled; readings = count }
 
 -- the open call with so many readings, after which it takes no operations
 abbrev pub reopened : Option Open → ℕ → Option Open

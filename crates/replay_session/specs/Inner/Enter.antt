@@ -1,11 +1,12 @@
 -- How the code's values stand for frames and sessions, and what entering a frame does. Contracts of inner functions cite this.
-use Rattle.std.specs.Prelude.{ℕ, ◌+◌, ◌≤◌, Bool, true, false, ◌||◌, Option, Some, None, Result, Ok, Err, List, [], ◌≡◌, ltb, length, take, if◌then◌else◌}
+use Rattle.std.specs.Prelude.{ℕ, ◌+◌, ◌≤◌, Bool, true, false, ◌||◌, Option, Some, None, Result, Ok, Err, List, [], ◌≡◌, ltb, length, take, set, if◌then◌else◌}
 use Rattle.slave.specs.declared.SlaveState.{SlaveState}
 use Rattle.text_hex.specs.Appended.{Appended}
 use Rattle.replay_calls.specs.Calls.{MOST_READINGS, listed}
-use Rattle.replay_calls.specs.Inner.Runs.{LOG_WORDS, MOST_TEXT}
+use Rattle.replay_calls.specs.Inner.Runs.{MOST_TEXT}
 use Rattle.replay_frames.specs.Frame.{bytes_frame}
 use Rattle.text_hex.specs.Text.{bytes_of}
+use Rattle.text_hex.specs.Pairs.{PutAt}
 use Rattle.replay_calls.specs.declared.Call.{Call}
 use Rattle.replay_calls.specs.declared.Done.{Done}
 use Rattle.replay_calls.specs.declared.Call.TheVariants.{Respond, RespondAndFill}
@@ -14,7 +15,9 @@ use Rattle.replay_session.specs.Inner.Bounded.{Kept, kept, large, Held, idle, wi
 use Rattle.replay_session.specs.declared.Wants.{Wants}
 use Rattle.replay_session.specs.declared.Wants.TheVariants.{Nothing}
 use Rattle.replay_session.specs.declared.Counts.{Counts}
+use Rattle.replay_session.specs.declared.Filled.{Filled}
 use Rattle.replay_session.specs.declared.Open.{Open}
+use Rattle.replay_session.specs.declared.Lists.{Lists}
 use Rattle.replay_session.specs.declared.Entered.{Entered}
 use Rattle.replay_session.specs.declared.Malformed.{Malformed}
 use Rattle.replay_frames.specs.declared.Line.{Line}
@@ -30,26 +33,55 @@ pub record Arrays : Type 0 where
 abbrev pub arrays : List ℕ → List ℕ → List ℕ → List ℕ → Arrays
 arrays ks ls bs rs = record { kinds = ks; lengths = ls; bytes = bs; readings = rs }
 
+abbrev pub arrays_of : Lists → Arrays
+arrays_of l = arrays l.kinds.now l.lengths.now l.bytes.now l.readings.now
+
+-- they are the same slices still
+pub record SameLists (before after : Lists) : Type 0 where
+  pub kinds : after.kinds.ghost_name ≡ before.kinds.ghost_name
+  pub lengths : after.lengths.ghost_name ≡ before.lengths.ghost_name
+  pub bytes : after.bytes.ghost_name ≡ before.bytes.ghost_name
+  pub readings : after.readings.ghost_name ≡ before.readings.ghost_name
+
+-- with an operation's kind and length stored, where the operations are within the limits
+abbrev pub stored : Option Filled → Arrays → ℕ → ℕ → Arrays
+stored None a kind len = a
+stored (Some f) a kind len = arrays (set a.kinds f.ops kind) (set a.lengths f.ops len) a.bytes a.readings
+
+-- with a reading stored
+abbrev pub with_reading : ℕ → Arrays → ℕ → Arrays
+with_reading n a word = arrays a.kinds a.lengths a.bytes (set a.readings n word)
+
+abbrev pub kept_by : Option Filled → Arrays → Kept
+kept_by None a = large
+kept_by (Some f) a = kept (listed (take f.ops a.kinds) (take f.ops a.lengths) (take f.bytes a.bytes) f.reads)
+
 abbrev pub kept_of : Counts → Arrays → Kept
-kept_of n a = if n.large then large else kept
-    (listed (take n.ops a.kinds) (take n.ops a.lengths) (take n.bytes a.bytes) n.reads)
+kept_of n a = kept_by n.filled a
 
 abbrev pub session_of : Option Open → SlaveState → Arrays → Held
 session_of None s a = idle s
 session_of (Some o) s a = within s o.call o.wants (kept_of o.counts a) (take o.counts.readings a.readings)
 
 abbrev pub no_counts : Counts
-no_counts = record { large = false; ops = 0; bytes = 0; reads = 0; readings = 0 }
+no_counts = record { filled = Some (record { ops = 0; bytes = 0; reads = 0 }); readings = 0 }
 
 -- with no call open nothing is kept
 abbrev pub counts_of : Option Open → Counts
 counts_of None = no_counts
 counts_of (Some o) = o.counts
 
+pub record Few (f : Filled) : Type 0 where
+  pub ops : f.ops ≤ 64
+  pub bytes : f.bytes ≤ 4096
+  pub reads : f.reads ≤ 4096
+
+abbrev pub FewIf : Option Filled → Type 0
+FewIf None = Unit {0}
+FewIf (Some f) = Few f
+
 pub record Within (n : Counts) : Type 0 where
-  pub ops : n.ops ≤ 64
-  pub bytes : n.bytes ≤ 4096
-  pub reads : n.reads ≤ 4096
+  pub filled : FewIf n.filled
   pub readings : n.readings ≤ MOST_READINGS
 
 pub record Small (o : Option Open) : Type 0 where
@@ -61,12 +93,6 @@ pub record Lent (a : Arrays) : Type 0 where
   pub lengths : length a.lengths ≡ 64
   pub bytes : length a.bytes ≡ 4096
   pub readings : length a.readings ≡ MOST_READINGS
-
--- what running a call needs besides: the read or listen buffer, the log, and room for the answer
-pub record Workspace (b l o : List ℕ) (at : ℕ) : Type 0 where
-  pub buffer : length b ≡ 4096
-  pub log : length l ≡ LOG_WORDS
-  pub out : at + MOST_TEXT ≤ length o
 
 -- so many bytes of a line are kept: the longest line that is not beyond the limits has 6 and then 4,096 pairs of digits
 abbrev pub longest_kept : ℕ
@@ -112,26 +138,25 @@ abbrev pub entered : Option Open → SlaveState → ℕ → Result Entered Malfo
 entered o s at = Ok (record { call = o; slave = s; end = at })
 
 abbrev pub not_entered : Result Entered Malformed
-not_entered = Err (record { })
+not_entered = Err (record {})
 
 abbrev pub over_of : Counts → Counts
-over_of n = record { large = true; ops = n.ops; bytes = n.bytes; reads = n.reads; readings = n.readings }
+over_of n = record { filled = None; readings = n.readings }
 
 -- the counts with one more operation, of b bytes to write and m to read
-abbrev pub too_many : Counts → ℕ → ℕ → Bool
-too_many n b m = ltb 64 (n.ops + 1) || (ltb 4096 (n.bytes + b) || ltb 4096 (n.reads + m))
+abbrev pub too_many : Filled → ℕ → ℕ → Bool
+too_many f b m = ltb 64 (f.ops + 1) || (ltb 4096 (f.bytes + b) || ltb 4096 (f.reads + m))
 
-unfoldable pub added_to : Counts → ℕ → ℕ → Counts
-added_to n b m =
-    if n.large then n else
-    (if too_many n b m then over_of n else
-    record {
-      large = false;
-      ops = n.ops + 1;
-      bytes = n.bytes + b;
-      reads = n.reads + m;
-      readings = n.readings;
-    })
+unfoldable pub more : Filled → ℕ → ℕ → Option Filled
+more f b m =
+    if too_many f b m then None else Some (record { ops = f.ops + 1; bytes = f.bytes + b; reads = f.reads + m })
+
+abbrev pub more_if : Option Filled → ℕ → ℕ → Option Filled
+more_if None b m = None
+more_if (Some f) b m = more f b m
+
+abbrev pub added_to : Counts → ℕ → ℕ → Counts
+added_to n b m = record { filled = more_if n.filled b m; readings = n.readings }
 
 abbrev pub call_entered : Call → Option Open → SlaveState → ℕ → Result Entered Malformed
 call_entered c (Some o) s at = not_entered
@@ -161,7 +186,7 @@ taken_by (Line.RespondAndFill b) None n = Some (opened (RespondAndFill b) Nothin
 taken_by (Line.RespondAndFill b) (Some o) n = None
 
 abbrev pub one_reading : Counts → Counts
-one_reading n = record { large = n.large; ops = n.ops; bytes = n.bytes; reads = n.reads; readings = n.readings + 1 }
+one_reading n = record { filled = n.filled; readings = n.readings + 1 }
 
 abbrev pub reading_entered : Option Open → SlaveState → ℕ → Result Entered Malformed
 reading_entered None s at = not_entered
@@ -170,10 +195,13 @@ reading_entered (Some o) s at =
     (if ltb o.counts.readings MOST_READINGS then entered (Some (opened o.call Nothing (one_reading o.counts))) s at else not_entered)
     else not_entered
 
--- a line of the pairs of digits `ds` was entered, whatever the readings are and whatever was printed before
-abbrev pub PairsAs : Line → List ℕ → Option Open → SlaveState → List ℕ → List ℕ → List ℕ → List ℕ → List ℕ → List ℕ → ℕ → Result Entered Malformed → Type 0
-PairsAs l ds o s ks ls bs ks' ls' bs' at r =
-    (rs out : List ℕ)
-    → Lent (arrays ks ls bs rs)
-    → EnteredAs r (arrays ks' ls' bs' rs) out at out
-    (next_held (session_of o s (arrays ks ls bs rs)) (bytes_frame l (bytes_of ds)))
+-- the bytes that the pairs of digits write stand behind those of the call, where they are within the limits
+abbrev pub PutBehind : List ℕ → Option Filled → Arrays → Arrays → Type 0
+PutBehind ds None a a' = a' ≡ a
+PutBehind ds (Some f) a a' = (a'.kinds ≡ a.kinds) × (a'.lengths ≡ a.lengths) × (a'.readings ≡ a.readings)
+    × PutAt ds f.bytes a.bytes a'.bytes
+
+-- a line of the pairs of digits `ds` was entered, whatever was printed before
+abbrev pub PairsAs : Line → List ℕ → Option Open → SlaveState → Arrays → Arrays → ℕ → Result Entered Malformed → Type 0
+PairsAs l ds o s a a' at r =
+    (out : List ℕ) → Lent a → EnteredAs r a' out at out (next_held (session_of o s a) (bytes_frame l (bytes_of ds)))

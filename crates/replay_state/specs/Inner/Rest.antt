@@ -9,10 +9,12 @@ use Rattle.replay_frames.specs.Frame.{head_of, width}
 use Rattle.replay_frames.specs.declared.Line.{Line}
 use Rattle.replay_session.specs.Session.{refusal, line_after, printed_from, fresh}
 use Rattle.replay_session.specs.Inner.Bounded.{Held, next_held, holds_call}
-use Rattle.replay_session.specs.Inner.Enter.{Arrays, arrays, session_of, Small, Lent, longest_kept, counts_of, over_of, not_entered}
+use Rattle.replay_session.specs.Inner.Enter.{Arrays, arrays, arrays_of, session_of, Small, Lent, longest_kept, counts_of, over_of, not_entered}
 use Rattle.replay_session.specs.Inner.Enter.{taken_by, bytes_entered}
 use Rattle.replay_session.specs.declared.Entered.{Entered}
 use Rattle.replay_session.specs.declared.Open.{Open}
+use Rattle.replay_session.specs.declared.Lists.{Lists}
+use Rattle.replay_calls.specs.declared.Workspace.{Workspace}
 use Rattle.replay_session.specs.declared.Malformed.{Malformed}
 use Rattle.replay_state.specs.declared.Part.{Part}
 use Rattle.replay_state.specs.declared.Part.TheVariants.{Stopped, Text, Long}
@@ -29,6 +31,10 @@ pub record Whole : Type 0 where
 
 abbrev pub whole : State → List ℕ → List ℕ → List ℕ → List ℕ → List ℕ → List ℕ → List ℕ → Whole
 whole s t ks ls bs rs b l = record { state = s; text = t; lists = arrays ks ls bs rs; buffer = b; log = l }
+
+-- the same of the lent structs
+abbrev pub reader_of : State → List ℕ → Lists → Workspace → Whole
+reader_of s t l w = record { state = s; text = t; lists = arrays_of l; buffer = w.buffer.now; log = w.log.now }
 
 -- of a line that is longer than what is kept, it matters only whether a digit waits: it stands as the bytes kept and
 -- one digit more, or two

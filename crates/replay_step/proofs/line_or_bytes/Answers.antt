@@ -4,22 +4,21 @@
 use mathlib.Core.Path.{◌≡◌, ◌∙◌}
 use Prim.Native.Nat.{◌+◌, ◌-◌}
 use native.Mathlib.Omega.{arith}
-use Rattle.replay_session.specs.Inner.Enter.{arrays}
+use Rattle.replay_session.specs.Inner.Enter.{arrays_of}
 use Rattle.replay_state.proofs.Steps.{line_read}
 use Rattle.replay_step.proofs.line_or_bytes.Goals as goal
 
-pub returns : goal.returns
-returns c = let a = c.args in
+pub returns-clause-steps : goal.returns-clause-steps
+returns-clause-steps c = let a = c.args in
     let n = c.in-Some.n in
     let z : (a.i + n) - a.i ≡ n = omega arith in
-    let d = line_read a.s a.text.now
-    (arrays a.kinds.now a.lengths.now a.bytes.now a.readings.now) a.buffer.now
-    a.log.now c.requires.0 a.out.now a.at
+    let d = line_read a.s a.text.now (arrays_of a.lists.now) a.work.now.buffer.now
+    a.work.now.log.now c.requires.sound a.work.now.out.now a.at
     c.in-Some.ensures.2 a.chunk.now a.i n
     c.in-Some.ensures.0 (omega (arith, c.in-Some.ensures.1)) _ _ _
-    (c.enter_line-e.auto.buffer ∙ c.requires.0.buffer)
-    (c.enter_line-e.auto.log ∙ c.requires.0.log) _ _ _ _
-    (rw z at c.enter_line-e.ensures) c.end_line-t.ensures in (
+    (c.enter_line-e.ensures.same_space.buffer_length ∙ c.requires.sound.buffer)
+    (c.enter_line-e.ensures.same_space.log_length ∙ c.requires.sound.log) _ _ _ _
+    (rw z at c.enter_line-e.ensures.entered) c.end_line-t.ensures in (
       d.0,
       d.1,
       omega arith,

@@ -2,5 +2,6 @@
 use Rattle.replay.proofs.Moving.{fed_part}
 use Rattle.replay.proofs.input.feed_from.Goals as goal
 
-pub returns : goal.returns
-returns c = fed_part c.args.chunk.now c.args.at c.args.filled c.requires.0 c.requires.1 c.feed-f.ensures
+pub returns-clause-fed : goal.returns-clause-fed
+returns-clause-fed c =
+    fed_part c.args.chunk.now c.args.at c.args.filled c.requires.some c.requires.inside c.feed-f.ensures.fed
