@@ -5,10 +5,10 @@
 // the caller holds beside the words as two bytes (`code`): one transfer takes either kind, not both.
 #![tactic(auto)]
 
-ghost use Rattle.std.specs.Prelude.{◌≡◌, true, false, [], ◌∷◌};
-ghost use Rattle.export_steps.specs.Forms.{same, fits_form, accepts};
+ghost use Rattle.std.specs.Prelude.{◌≡◌, true, false, []};
+ghost use Rattle.export_steps.specs.Forms.{fits_form, accepts};
 ghost use Rattle.words_code.specs.Inner.Code.{sum_in};
-ghost use Rattle.export_steps.specs.Inner.Steps.{access_of, over_limits, told_by};
+ghost use Rattle.export_steps.specs.Inner.Steps.{access_of, ended, over_limits, told_by};
 ghost use Rattle.export_steps.specs.Inner.Steps.{Starts, Tells, Advances, Moves, Stores};
 
 use i2c::is_listed;
@@ -29,34 +29,50 @@ pub struct Access {
     pub value: u32,
 }
 
-fn told_access(n: Next) -> Access
-    ensures { result ≡ access_of n }
-{
-    match n {
-        Next::Read(r) => Access {
-            kind: 1,
-            register: r,
+impl Access {
+    // An access before the end.
+    fn of(kind: u8, register: u8, value: u32) -> Access
+        ensures { result ≡ record { kind = kind; register = register; number = 0; value = value } }
+    {
+        Access {
+            kind,
+            register,
             number: 0,
-            value: 0,
-        },
-        Next::Write(r, v) => Access {
-            kind: 2,
-            register: r,
-            number: 0,
-            value: v,
-        },
-        Next::Mark(k) => Access {
-            kind: 3,
-            register: k,
-            number: 0,
-            value: 0,
-        },
-        Next::Finished(a) => Access {
+            value,
+        }
+    }
+
+    // The end, with the answer's number and detail.
+    #[tactic(auto, unfolding(crate::specs::Inner::Steps::ended))]
+    fn end(number: u8, detail: u32) -> Access
+        ensures { result ≡ ended number detail }
+    {
+        Access {
             kind: 0,
             register: 0,
-            number: regs_numbers::number_of(Reply::Answered(a)),
-            value: regs_numbers::detail_of(Reply::Answered(a)),
-        },
+            number,
+            value: detail,
+        }
+    }
+}
+
+impl From<Next> for Access {
+    ghost from_gives = { λ next access. access ≡ access_of next };
+
+    #[tactic(auto, unfolding(crate::specs::Inner::Steps::access_of))]
+    fn from(next: Next) -> Access {
+        match next {
+            Next::Read(register) => Access::of(1, register, 0),
+            Next::Write(register, value) => Access::of(2, register, value),
+            Next::Mark(mark) => Access::of(3, mark, 0),
+            Next::Finished(answer) => {
+                let reply = Reply::Answered(answer);
+                Access::end(
+                    regs_numbers::number_of(reply),
+                    regs_numbers::detail_of(reply),
+                )
+            }
+        }
     }
 }
 
@@ -67,51 +83,26 @@ fn refuse(t: Transfer) -> Transfer
     t.at_point(Point::Finished(Answer::Refused(Refusal::OverLimits)))
 }
 
-fn is_one(kinds: &[u8], kind: u8) -> bool
-    ensures { result ≡ same kinds.now (kind ∷ []) }
-{
-    if kinds.len() == 1 {
-        return kinds[0] == kind;
-    }
-    false
-}
-
-fn are_two(kinds: &[u8], first: u8, second: u8) -> bool
-    ensures { result ≡ same kinds.now (first ∷ second ∷ []) }
-{
-    if kinds.len() == 2 {
-        return (kinds[0] == first) & (kinds[1] == second);
-    }
-    false
-}
-
 // Whether the kinds are those of the form: one read, one write, a write and a read, or any.
+// Form and kinds are the numbers that programs in C give, and any numbers are answered.
+#[tactic(auto, unfolding(crate::specs::Forms::fits_form, crate::specs::Forms::shape_of, crate::specs::Forms::same))]
 fn are_of_form(form: u8, kinds: &[u8]) -> bool
     ensures { result ≡ fits_form form kinds.now }
 {
-    if 7 < form {
-        return false;
+    match form {
+        0 | 4 => matches!(kinds, [0]),
+        1 | 5 => matches!(kinds, [1]),
+        2 | 6 => matches!(kinds, [1, 0]),
+        3 | 7 => true,
+        _ => false,
     }
-    let shape = form % 4;
-    if shape == 0 {
-        return is_one(kinds, 0);
-    }
-    if shape == 1 {
-        return is_one(kinds, 1);
-    }
-    if shape == 2 {
-        return are_two(kinds, 1, 0);
-    }
-    true
 }
 
+#[tactic(auto, unfolding(crate::specs::Forms::accepts))]
 fn is_accepted(form: u8, kinds: &[u8], lengths: &[u16], written: usize, room: usize) -> bool
     ensures { result ≡ accepts form kinds.now lengths.now written room }
 {
-    if are_of_form(form, kinds) {
-        return is_listed(kinds, lengths, written, room);
-    }
-    false
+    are_of_form(form, kinds) && is_listed(kinds, lengths, written, room)
 }
 
 // A transfer before its first access, by its form: 0 a blocking read, 1 a write, 2 a write-read,
@@ -147,14 +138,9 @@ pub extern "C" fn celadonsaw_next_access(words: &[u64; 20], write: &[u8]) -> Acc
     ensures { Tells false words.now write.now result }
 {
     if words::ended(words) {
-        return Access {
-            kind: 0,
-            register: 0,
-            number: words::byte(words[ROW]),
-            value: words::full(words[WORD]),
-        };
+        return Access::end(words::byte(words[ROW]), words::full(words[WORD]));
     }
-    told_access(transfer_access::next_access(words::transfer_from(words), write))
+    transfer_access::next_access(words::transfer_from(words), write).into()
 }
 
 // A step that is not made on the words: they are decoded, and the transfer after the step is put back.
@@ -219,33 +205,28 @@ pub extern "C" fn celadonsaw_step(
             value: a.value,
         };
     }
-    told_access(words_access::access_at(words, code / 8, code % 8, write))
+    words_access::access_at(words, code / 8, code % 8, write).into()
 }
 
 // ---- with a packet error code
 
 // An access as it is told: the word with STOP of a write carries the code, and at the
 // end an accepted transfer is 22 where the code that came is not the message's.
+#[tactic(auto, unfolding(crate::specs::Inner::Steps::told_by))]
 fn changed(code: &[u8; 2], a: Access) -> Access
     ensures { result ≡ told_by (sum_in code.now) a }
 {
-    if a.kind == 0 {
-        return Access {
-            kind: a.kind,
-            register: a.register,
+    match a.kind {
+        0 => Access {
             number: words_code::number(code, a.number, a.value),
-            value: a.value,
-        };
-    }
-    if a.kind == 2 {
-        return Access {
-            kind: a.kind,
-            register: a.register,
-            number: a.number,
+            ..a
+        },
+        2 => Access {
             value: words_code::word(code, a.register, a.value),
-        };
+            ..a
+        },
+        _ => a,
     }
-    a
 }
 
 // As `celadonsaw_start`, with a packet error code. All lengths are those of the data: the code
