@@ -8,7 +8,8 @@ use lib.Dec.{ltb}
 use lib.ListN.{length, take, length-map}
 use lib.Seq.{sets, take_all, take-take}
 use borrow.Author.Tests.{ltb-true, ltb-false}
-use Rattle.std.specs.Prelude.{if◌then◌else◌}
+use Rattle.std.specs.Prelude.{min}
+use Rattle.std.proofs.Math.Nat.{min-eq_left, min-eq_right}
 use Rattle.regs.specs.declared.access.Entry.{Entry}
 use Rattle.bus.specs.Bus.{Sign, START, RESTART, STOP, address_byte, written, read_slot, bus_sequence, sign_word, sign_words}
 use Rattle.explain_bus.proofs.Signs.{sequence_held}
@@ -67,19 +68,24 @@ words_taken (suc k) (s ∷ ss) = ap (λ (l : List ℕ). sign_word s ∷ l) (word
 first_held : (ss : List Sign) (after : List ℕ) (n : ℕ)
     → n ≡ length ss
     → take n after ≡ sign_words ss
-    → (q : Bool)
-    → ltb n 256 ≡ q
-    → take (if q then n else 256) after ≡ take 256 (sign_words ss)
-first_held ss after n e h true t = h ∙ sym (take_all 256 (sign_words ss) (omega (arith, e, length-map ss sign_word, ltb-true n 256 t)))
-first_held ss after n e h false t = sym (take-take 256 n after (ltb-false n 256 t)) ∙ ap (λ (l : List ℕ). take 256 l) h
+    → take (min n 256) after ≡ take 256 (sign_words ss)
+first_held ss after n e h = by_test (ltb n 256) refl
+  where
+    by_test : (t : Bool) → ltb n 256 ≡ t → take (min n 256) after ≡ take 256 (sign_words ss)
+    by_test true t =
+        let l : n ≤ 256 = omega (arith, ltb-true n 256 t) in
+        rw (min-eq_left l) (h ∙ sym (take_all 256 (sign_words ss) (omega (arith, e, length-map ss sign_word, l))))
+    by_test false t =
+        let l = ltb-false n 256 t in
+        rw (min-eq_right l) (sym (take-take 256 n after l) ∙ ap (λ (m : List ℕ). take 256 m) h)
 
 pub drawn_is : (l : List ℕ) (log : List Entry) {after : List ℕ} {n m : ℕ}
     → (n ≡ length (bus_sequence log)) × (after ≡ sets l 0 (sign_words (bus_sequence log)))
     → n ≤ length after
     → length after ≡ length l
-    → m ≡ (if ltb n 256 then n else 256) → words_svg (take m after) n ≡ svg_text (take 256 (bus_sequence log)) n
+    → m ≡ min n 256 → words_svg (take m after) n ≡ svg_text (take 256 (bus_sequence log)) n
 drawn_is l log {after} {n} s h k e =
     let ss = bus_sequence log in
-    let f : take (if ltb n 256 then n else 256) after ≡ sign_words (take 256 ss) =
-    first_held ss after n s.0 (sequence_held l ss s h k) (ltb n 256) refl ∙ words_taken 256 ss in
+    let f : take (min n 256) after ≡ sign_words (take 256 ss) =
+    first_held ss after n s.0 (sequence_held l ss s h k) ∙ words_taken 256 ss in
     rw (e, f) (svg_is n (fit_take 256 (fit_sequence log)))

@@ -1,7 +1,7 @@
 // The picture of a log's bus sequence: the signs one after the other, and the whole.
 #![tactic(auto)]
 
-ghost use Rattle.std.specs.Prelude.{◌+◌, ◌*◌, ◌≤◌, ◌≡◌, length, take, ltb, if◌then◌else◌};
+ghost use Rattle.std.specs.Prelude.{◌+◌, ◌*◌, ◌≤◌, ◌≡◌, length};
 ghost use Rattle.text_hex.specs.Added.{Room, Added};
 ghost use Rattle.text_hex.specs.Appended.{Appended};
 ghost use Rattle.svg_text.specs.Picture.{column, row, note_text, picture};
@@ -18,20 +18,15 @@ pub const MOST: usize = 32768;
 
 pub const ROOM: usize = 53000;
 
+#[tactic(auto, unfolding(svg_text::specs::Inner::Drawn::kind_width))]
 fn width_of(kind: u32) -> u32
-    ensures { (result ≡ kind_width kind)
-        × (result ≤ 108) }
+    ensures same { result ≡ kind_width kind }
+    ensures narrow { result ≤ 108 }
 {
-    if kind == 1 {
-        return 24;
+    match kind {
+        1..=3 => 24,
+        _ => 108,
     }
-    if kind == 2 {
-        return 24;
-    }
-    if kind == 3 {
-        return 24;
-    }
-    108
 }
 
 // Where a sign stands: in the row of the one before it, or at the start of the next.
@@ -54,39 +49,35 @@ fn row_of(x: u32, y: u32, w: u32) -> u32
     if x + w > 800 { y + 120 } else { y }
 }
 
-fn last_row(places: &[u32], n: usize) -> u32
-    requires { (n ≤ length places.now)
-        × (n ≤ 256) }
-    ensures { (result ≡ words_last 60 70 (take n places.now))
-        × (result ≤ 70 + 120 * n) }
+// Where the last row of the places stands.
+fn last_row(places: &[u32]) -> u32
+    requires { length places.now ≤ 256 }
+    ensures same { result ≡ words_last 60 70 places.now }
+    ensures low { result ≤ 70 + 120 * length places.now }
 {
     let mut x: u32 = 60;
     let mut y: u32 = 70;
-    let mut i: usize = 0;
-    while i < n {
-        let w = width_of(places[i] / 65536);
+    for word in places {
+        let w = width_of(*word / 65536);
         let c = column_of(x, w);
         y = row_of(x, y, w);
         x = c + w;
-        i += 1;
     }
     y
 }
 
-fn push_signs(text: &mut Text, places: &[u32], n: usize)
-    requires room { Room (196 * n) text.old }
-    requires inside { n ≤ length places.now }
-    requires few { n ≤ 256 }
-    ensures { Added text.old (words_text 60 70 (take n places.now)) (196 * n) text.new }
+fn push_signs(text: &mut Text, places: &[u32])
+    requires room { Room (196 * length places.now) text.old }
+    requires few { length places.now ≤ 256 }
+    ensures { Added text.old (words_text 60 70 places.now) (196 * length places.now) text.new }
 {
     let mut x: u32 = 60;
     let mut y: u32 = 70;
-    for i in 0..n {
-        let word = places[i];
-        let w = width_of(word / 65536);
+    for word in places {
+        let w = width_of(*word / 65536);
         let c = column_of(x, w);
         y = row_of(x, y, w);
-        push_word(text, c, y, word);
+        push_word(text, c, y, *word);
         x = c + w;
     }
 }
@@ -97,66 +88,48 @@ fn push_note(text: &mut Text, y: u32, n: u32)
     requires { Room 73 text.old }
     ensures { Added text.old (note_text y n) 73 text.new }
 {
-    if n <= 256 {
-        return;
+    if n > 256 {
+        text.push_text(b"<text class=\"n\" x=\"16\" y=\"");
+        push_number(text, y);
+        text.push_text(b"\">the first 256 of ");
+        push_number(text, n);
+        text.push_text(b" entries</text>\n");
     }
-    text.push_text(b"<text class=\"n\" x=\"16\" y=\"");
-    push_number(text, y);
-    text.push_text(b"\">the first 256 of ");
-    push_number(text, n);
-    text.push_text(b" entries</text>\n");
 }
 
-fn push_svg(text: &mut Text, places: &[u32], n: usize, entries: u32)
+fn push_svg(text: &mut Text, places: &[u32], entries: u32)
     requires room { Room 53000 text.old }
-    requires inside { n ≤ length places.now }
-    requires few { n ≤ 256 }
-    ensures { Added text.old (words_svg (take n places.now) entries) 53000 text.new }
+    requires few { length places.now ≤ 256 }
+    ensures { Added text.old (words_svg places.now entries) 53000 text.new }
 {
-    let y = last_row(places, n);
+    let y = last_row(places);
     push_head(text, y + 130);
-    push_signs(text, places, n);
+    push_signs(text, places);
     push_note(text, y + 124, entries);
     text.push_text(b"</svg>\n");
 }
 
-fn svg(places: &[u32], n: usize, entries: u32, out: &mut [u8]) -> usize
+fn svg(places: &[u32], entries: u32, out: &mut [u8]) -> usize
     requires room { 53000 ≤ length out.old }
-    requires inside { n ≤ length places.now }
-    requires few { n ≤ 256 }
-    ensures { Appended out.old 0 (words_svg (take n places.now) entries) 53000 out.new result }
+    requires few { length places.now ≤ 256 }
+    ensures { Appended out.old 0 (words_svg places.now entries) 53000 out.new result }
 {
     let mut text = Text::new(out, 0);
-    push_svg(&mut text, places, n, entries);
+    push_svg(&mut text, places, entries);
     text.at
-}
-
-fn drawn(n: usize) -> usize
-    ensures { (result ≡ (if ltb n 256 then n else 256))
-        × (result ≤ 256) }
-{
-    if n < DRAWN { n } else { DRAWN }
 }
 
 // The picture of a log, in a buffer lent for it; its sequence is put into
 // another. Says how long the text is: 0 where the log puts nothing on the bus.
+#[tactic(auto, using(text_hex::proofs::Appends::nothing), unfolding(svg_text::specs::Picture::picture))]
 pub fn picture(log: &[u32], places: &mut [u32], out: &mut [u8]) -> usize
     ensures { Appended out.old 0
         (picture log.now (length places.old) (length out.old))
         (length out.old) out.new result }
 {
     let n = bus::bus_sequence(log, places);
-    if n > MOST {
+    if n > MOST || places.len() < MOST || out.len() < ROOM || n == 0 {
         return 0;
     }
-    if places.len() < MOST {
-        return 0;
-    }
-    if out.len() < ROOM {
-        return 0;
-    }
-    if n == 0 {
-        return 0;
-    }
-    svg(places, drawn(n), n as u32, out)
+    svg(&places[..n.min(DRAWN)], n as u32, out)
 }

@@ -7,7 +7,7 @@ use Rattle.svg_picture.proofs.push_svg.Goals as goal
 
 pub returns : goal.returns
 unfolding words_svg
-returns c = rw (← c.last_row-y.ensures.0)
+returns c = rw (← c.last_row-y.ensures.same)
     (at_most 53000 (omega (arith, c.requires.few))
     (both c.push_head.ensures
     (both c.push_signs.ensures
