@@ -1,4 +1,4 @@
-// The code of a long message: it is folded into 64 lanes of every 64th byte, whose code is that of the message.
+// The code of a long message: it is folded into 64 lanes, each of every 64th byte, with the same code.
 ghost use Rattle.std.specs.Prelude.{◌<◌, ◌≤◌, ◌≡◌, length, take};
 ghost use Rattle.crc8.specs.Crc8.{crc8_from, crc8};
 ghost use Rattle.crc8.specs.Inner.Codes.{Codes};

@@ -1,4 +1,4 @@
-// The packet error code of a transfer by steps. Its caller in C holds it as two bytes beside the words: the CRC-8
+// The packet error code of a transfer by steps. Its caller in C holds it as two bytes beside the words: the
 // register, and the direction of the last data byte (0 read, 1 written; any other: there was none).
 #![tactic(auto)]
 
