@@ -14,15 +14,9 @@ ghost use Rattle.explain_lines.specs.Inner.Said.{PLACES, BUS_ROOM};
 use std::io::Print;
 use text_stdin::next_line;
 use text_stdin::reads::End;
+use text_stdin::report::{unread, unwritten};
 
-// How the input stands where the lines end, and whether all was written.
-#[derive(Clone, Copy)]
-struct Stopped {
-    end: End,
-    written: bool,
-}
-
-// Line after line to the end of the input.
+// Line after line to the end of the input. How the input stands where the lines end, or that not all was written.
 fn explain_all(
     rt: HostRuntime,
     chunk: &mut [u8],
@@ -30,7 +24,7 @@ fn explain_all(
     log: &mut [u32],
     places: &mut [u32],
     out: &mut [u8],
-) -> Stopped
+) -> Result<End, std::io::Error>
     requires { (length line.old ≡ 8195)
         × (length log.old ≡ LOG_WORDS)
         × (length places.old ≡ PLACES)
@@ -38,7 +32,6 @@ fn explain_all(
 {
     let mut source = text_stdin::start();
     let mut call = explain_lines::start();
-    let mut written = true;
     // A proved loop ends, so it counts its turns up to a number that no run reaches.
     for _ in 0..u64::MAX {
         let l = next_line(rt, source, chunk, line);
@@ -46,17 +39,11 @@ fn explain_all(
         if !l.some {
             break;
         }
-        let held = l.held;
-        let s = explain_lines::explain_line(call, line, held, log, places, out);
+        let s = explain_lines::explain_line(call, line, l.held, log, places, out);
         call = s.call;
-        let made = s.made;
-        written = rt.stdout().write_all(&out[..made]).is_ok();
-        if !written {
-            break;
-        }
+        rt.stdout().write_all(&out[..s.made])?;
     }
-    let end = source.end;
-    Stopped { end, written }
+    Ok(source.end)
 }
 
 fn main(rt: HostRuntime) {
@@ -65,7 +52,8 @@ fn main(rt: HostRuntime) {
     let mut log = [0u32; 16384];
     let mut places = [0u32; 32768];
     let mut out = [0u8; 311821];
-    let s = explain_all(rt, &mut chunk, &mut line, &mut log, &mut places, &mut out);
-    let end = s.end;
-    text_stdin::report::stopped(rt, b"explain", s.written, end);
+    match explain_all(rt, &mut chunk, &mut line, &mut log, &mut places, &mut out) {
+        Ok(end) => unread(rt, b"explain", end),
+        Err(_) => unwritten(rt, b"explain"),
+    }
 }

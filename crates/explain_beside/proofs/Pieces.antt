@@ -18,8 +18,12 @@ use Rattle.bus.specs.Bus.{signs, bus_sequence}
 use Rattle.bus.specs.Placed.{made, moved}
 use Rattle.answer_frames.specs.declared.Frame.{Frame}
 use Rattle.answer_frames.specs.declared.Frame.TheVariants.{Read, Write, Pending, BlockReset, Buffer, Answer}
-use Rattle.explain_beside.specs.declared.transfer.Transfer.TheVariants.{No, To}
+use Rattle.explain_beside.specs.declared.transfer.Transfer.{Transfer}
 use Rattle.explain_beside.specs.Piece.{opened, pieces, kept_from}
+
+-- an open transfer
+abbrev to : ℕ → Bus → Option Transfer
+to address bus = Some (record { address = address; bus = bus })
 
 -- the entry that a kept write is
 entry_is : (offset w : ℕ) → entry (0x200 + offset % 256) w ≡ entries.Write (offset % 256) w
@@ -30,10 +34,10 @@ entry_is offset w =
 
 -- a write to DATA_CMD makes its piece, and one to another register none
 word_step : (address : ℕ) (bus : Bus) (w : ℕ) (fs : List (Option Frame)) (later : List ℕ)
-    → ((b : Bus) → pieces (To address b) fs ≡ signs b address later)
+    → ((b : Bus) → pieces (to address b) fs ≡ signs b address later)
     → (q : Bool)
     → made bus address (if q then Some w else None) ++ pieces
-    (To address (moved bus (if q then Some w else None))) fs
+    (to address (moved bus (if q then Some w else None))) fs
     ≡ signs bus address (if q then w ∷ later else later)
 unfolding signs
 word_step address bus w fs later ih true = rw (ih _)
@@ -42,7 +46,7 @@ word_step address bus w fs later ih false = ih bus
 -- from the write to TAR on
 along : (address : ℕ) (bus : Bus) (used : ℕ) (fs : List (Option Frame))
     → (used ≡ 0 → ⊥)
-    → pieces (To address bus) fs ≡ signs bus address (written_to DATA_CMD (decode (kept_from used fs)))
+    → pieces (to address bus) fs ≡ signs bus address (written_to DATA_CMD (decode (kept_from used fs)))
 unfolding pieces kept_from signs written_to decode
 along address bus used [] f = refl
 along address bus used (Some (Read offset w) ∷ fs) f = along address bus (used + 0) fs (λ e. f (omega arith))
@@ -58,7 +62,7 @@ along address bus used (None ∷ fs) f = along address bus (used + 0) fs (λ e. 
 
 -- a write to TAR opens the transfer
 target_step : (offset w : ℕ) (fs : List (Option Frame))
-    → pieces No fs ≡ bus_sequence (decode (kept_from 0 fs))
+    → pieces None fs ≡ bus_sequence (decode (kept_from 0 fs))
     → (q : Bool)
     → eqb (offset % 256) TAR ≡ q
     → pieces (opened (if q then Some w else None)) fs
@@ -69,7 +73,7 @@ target_step offset w fs ih true e =
     rw (entry_is offset w, eqb-true (offset % 256) TAR e) (along (address_field w) Idle 2 fs (λ z. omega arith))
 target_step offset w fs ih false e = ih
 
-pub pieces_are_sequence : (fs : List (Option Frame)) → pieces No fs ≡ bus_sequence (decode (kept_from 0 fs))
+pub pieces_are_sequence : (fs : List (Option Frame)) → pieces None fs ≡ bus_sequence (decode (kept_from 0 fs))
 unfolding pieces kept_from signs written_to decode
 pieces_are_sequence [] = refl
 pieces_are_sequence (Some (Read offset w) ∷ fs) = pieces_are_sequence fs

@@ -10,7 +10,7 @@ ghost use Rattle.explain_beside.specs.Inner.Parts.{addressed_text, opening_text}
 ghost use Rattle.explain_beside.specs.Inner.Parts.{condition_row, data_text, closing_text};
 
 use super::transfer::{Transfer, written};
-use bus::{Bus, Condition};
+use bus::Condition;
 use explain_bus::line::{letter, push_byte, push_name, push_run};
 use explain_frames::{explain, push_words};
 use regs::fields::{byte_of, has_stop, is_read};
@@ -72,14 +72,13 @@ fn push_closing(text: &mut Text, last: bool)
 }
 
 // What a word makes of the bus.
-fn push_piece(text: &mut Text, bus: Bus, address: u32, w: u32)
+fn push_piece(text: &mut Text, transfer: Transfer, w: u32)
     requires { Room 31 text.old }
-    ensures { Added text.old (signs_text 0 (signs_of bus address w)) 31 text.new }
+    ensures { Added text.old (signs_text 0 (signs_of transfer.bus transfer.address w)) 31 text.new }
 {
     let read = is_read(w);
-    let applied = bus.applied(w);
-    let opening = applied.opening;
-    push_opening(text, opening, address, read);
+    let applied = transfer.bus.applied(w);
+    push_opening(text, applied.opening, transfer.address, read);
     push_data(text, read, w);
     push_closing(text, has_stop(w));
 }
@@ -95,31 +94,31 @@ fn push_spaces(text: &mut Text, column: usize)
     }
 }
 
-fn push_word(text: &mut Text, bus: Bus, address: u32, w: u32)
+fn push_word(text: &mut Text, transfer: Transfer, w: u32)
     requires { Room 16900 text.old }
-    ensures { Added text.old (word_line bus address w) 16900 text.new }
+    ensures { Added text.old (word_line transfer w) 16900 text.new }
 {
     let start = text.at;
     push_words(text, 1, u32::from(regs::DATA_CMD), w);
     push_spaces(text, start + 52);
     text.push_text(b"  bus:");
-    push_piece(text, bus, address, w);
+    push_piece(text, transfer, w);
     text.push(b'\n');
 }
 
-fn word_line(bus: Bus, address: u32, w: u32, out: &mut [u8]) -> usize
+fn word_line(transfer: Transfer, w: u32, out: &mut [u8]) -> usize
     requires { 16900 ≤ length out.old }
-    ensures { Appended out.old 0 (word_line bus address w) 16900 out.new result }
+    ensures { Appended out.old 0 (word_line transfer w) 16900 out.new result }
 {
     let mut text = Text::new(out, 0);
-    push_word(&mut text, bus, address, w);
+    push_word(&mut text, transfer, w);
     text.at
 }
 
 // A line of an open transfer.
-fn explain_after(bus: Bus, address: u32, line: &[u8], out: &mut [u8]) -> usize
+fn explain_after(transfer: Transfer, line: &[u8], out: &mut [u8]) -> usize
     ensures { Appended out.old 0
-        (told_of bus address line.now (length out.old))
+        (told_of transfer line.now (length out.old))
         (length out.old) out.new result }
 {
     match written(line, regs::DATA_CMD) {
@@ -128,19 +127,19 @@ fn explain_after(bus: Bus, address: u32, line: &[u8], out: &mut [u8]) -> usize
             if out.len() < explain_frames::ROOM {
                 return 0;
             }
-            word_line(bus, address, w, out)
+            word_line(transfer, w, out)
         }
     }
 }
 
 // The text of a line after what stands before it, at the start of a buffer that has room for the longest.
-pub fn tell(t: Transfer, line: &[u8], out: &mut [u8]) -> usize
+pub fn tell(before: Option<Transfer>, line: &[u8], out: &mut [u8]) -> usize
     ensures { Appended out.old 0
-        (told t line.now (length out.old))
+        (told before line.now (length out.old))
         (length out.old) out.new result }
 {
-    match t {
-        Transfer::No => explain(line, out),
-        Transfer::To(address, bus) => explain_after(bus, address, line, out),
+    match before {
+        None => explain(line, out),
+        Some(transfer) => explain_after(transfer, line, out),
     }
 }

@@ -1,17 +1,18 @@
 // What stands before a frame of a call, as far as it decides what a word makes of the bus.
 ghost use Rattle.std.specs.Prelude.{◌≡◌};
 ghost use Rattle.answer_frames.specs.Frames.{frame_of};
-ghost use Rattle.bus.specs.Placed.{moved};
-ghost use Rattle.explain_beside.specs.Piece.{written_in, opened, next};
+ghost use Rattle.regs.specs.Registers.{TAR, DATA_CMD};
+ghost use Rattle.explain_beside.specs.Piece.{written_in, opened, moved_on, next};
 
 use answer_frames::{Frame, frame_in};
 use bus::Bus;
+use regs::fields::address_of;
 
-// No transfer, as long as TAR was not written; then its address, and the bus.
+// The transfer of an open call, from its write to TAR on: the address written, and how its words left the bus.
 #[derive(Clone, Copy)]
-pub enum Transfer {
-    No,
-    To(u32, Bus),
+pub struct Transfer {
+    pub address: u32,
+    pub bus: Bus,
 }
 
 // What a line writes to a register.
@@ -24,34 +25,37 @@ pub fn written(line: &[u8], register: u8) -> Option<u32>
     }
 }
 
-fn open(target: Option<u32>) -> Transfer
-    ensures { result ≡ opened target }
-{
-    match target {
-        None => Transfer::No,
-        Some(w) => Transfer::To(regs::fields::address_of(w), Bus::new()),
+impl Transfer {
+    // The transfer that a line opens, on an idle bus.
+    fn opened_by(line: &[u8]) -> Option<Transfer>
+        ensures { result ≡ opened (written_in TAR (frame_of line.now)) }
+    {
+        let target = written(line, regs::TAR)?;
+        Some(Transfer {
+            address: address_of(target),
+            bus: Bus::new(),
+        })
     }
-}
 
-fn go_on(address: u32, bus: Bus, word: Option<u32>) -> Transfer
-    ensures { result ≡ Transfer.To address (moved bus word) }
-{
-    match word {
-        None => Transfer::To(address, bus),
-        Some(w) => {
-            let applied = bus.applied(w);
-            let next = applied.bus;
-            Transfer::To(address, next)
+    fn after(self, line: &[u8]) -> Transfer
+        ensures { result ≡ moved_on self (written_in DATA_CMD (frame_of line.now)) }
+    {
+        match written(line, regs::DATA_CMD) {
+            None => self,
+            Some(w) => Transfer {
+                bus: self.bus.applied(w).bus,
+                ..self
+            },
         }
     }
 }
 
 // What stands before the next line.
-pub fn after(t: Transfer, line: &[u8]) -> Transfer
-    ensures { result ≡ next t (frame_of line.now) }
+pub fn after(before: Option<Transfer>, line: &[u8]) -> Option<Transfer>
+    ensures { result ≡ next before (frame_of line.now) }
 {
-    match t {
-        Transfer::No => open(written(line, regs::TAR)),
-        Transfer::To(address, bus) => go_on(address, bus, written(line, regs::DATA_CMD)),
+    match before {
+        None => Transfer::opened_by(line),
+        Some(transfer) => Some(transfer.after(line)),
     }
 }

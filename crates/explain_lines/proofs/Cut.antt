@@ -4,17 +4,17 @@ use mathlib.Core.List.{List, [], ◌∷◌, ◌++◌, map}
 use mathlib.Core.Logic.{⊎_elim}
 use mathlib.Core.Path.{◌≡◌, refl, ap, ◌∙◌}
 use lib.ListN.{length, take}
+use Rattle.std.specs.Prelude.{Option, Some, None}
 use Rattle.answer_frames.specs.Frames.{frame_of}
 use Rattle.explain_beside.specs.Piece.{next}
 use Rattle.explain_beside.specs.declared.transfer.Transfer.{Transfer}
-use Rattle.explain_beside.specs.declared.transfer.Transfer.TheVariants.{No, To}
 use Rattle.answer_lines.specs.Lines.{number_after, warning}
 use Rattle.answer_lines.proofs.Long.{long_frame, long_kept, long_answer, long_none, cut_same}
 use Rattle.explain_lines.specs.Printed.{Open, open_after, line_text, explained_from}
 
-long_transfer : (l : List ℕ) → 8194 < length l → (t : Transfer) → next t (frame_of l) ≡ t
-long_transfer l h No = ⊎_elim (λ e. ap (next No) e) (λ e. ap (next No) e) (long_frame l h)
-long_transfer l h (To address bus) = ⊎_elim (λ e. ap (next (To address bus)) e) (λ e. ap (next (To address bus)) e) (long_frame l h)
+long_transfer : (l : List ℕ) → 8194 < length l → (t : Option Transfer) → next t (frame_of l) ≡ t
+long_transfer l h None = ⊎_elim (λ e. ap (next None) e) (λ e. ap (next None) e) (long_frame l h)
+long_transfer l h (Some t) = ⊎_elim (λ e. ap (next (Some t)) e) (λ e. ap (next (Some t)) e) (long_frame l h)
 
 abbrev passed : Open → Open
 passed o = record { lines = number_after o.lines; transfer = o.transfer; log = o.log }

@@ -13,13 +13,11 @@ use Rattle.std.specs.Prelude.{if◌then◌else◌, Option, Some, None}
 use Rattle.regs.specs.Registers.{DATA_CMD}
 use Rattle.regs.specs.Log.{decode}
 use Rattle.bus.specs.Bus.{bus_sequence}
-use Rattle.bus.specs.declared.Bus.{Bus}
 use Rattle.text_hex.specs.Appended.{Appended}
 use Rattle.answer_frames.specs.Frames.{frame_of}
 use Rattle.explain_frames.specs.Texts.{line_text, explained}
 use Rattle.explain_bus.specs.Line.{bus_line}
 use Rattle.explain_beside.specs.declared.transfer.Transfer.{Transfer}
-use Rattle.explain_beside.specs.declared.transfer.Transfer.TheVariants.{No, To}
 use Rattle.explain_beside.specs.Piece.{written_in, told_word, told_of, told}
 use Rattle.answer_lines.specs.Lines.{no_frame, warning, LOG_WORDS}
 use Rattle.answer_lines.proofs.Signs.{signs_fit}
@@ -32,16 +30,16 @@ explained_in line room h =
     ap (λ (small : Bool). if ltb 8194 (length line) then [] else (if small then [] else line_text line (frame_of line)))
     (le-ltb room 16900 h)
 
-word_in : (bus : Bus) (address : ℕ) (line : List ℕ) (room : ℕ) (w : Option ℕ)
+word_in : (t : Transfer) (line : List ℕ) (room : ℕ) (w : Option ℕ)
     → LINE_ROOM ≤ room
-    → told_word bus address line room w ≡ told_word bus address line LINE_ROOM w
-word_in bus address line room None h = explained_in line room h
-word_in bus address line room (Some w) h = rw (le-ltb room 16900 h)
+    → told_word t line room w ≡ told_word t line LINE_ROOM w
+word_in t line room None h = explained_in line room h
+word_in t line room (Some w) h = rw (le-ltb room 16900 h)
 
-pub told_in : (t : Transfer) (line : List ℕ) (room : ℕ) → LINE_ROOM ≤ room → told t line room ≡ told t line LINE_ROOM
+pub told_in : (t : Option Transfer) (line : List ℕ) (room : ℕ) → LINE_ROOM ≤ room → told t line room ≡ told t line LINE_ROOM
 unfolding told_of
-told_in No line room h = explained_in line room h
-told_in (To address bus) line room h = word_in bus address line room (written_in DATA_CMD (frame_of line)) h
+told_in None line room h = explained_in line room h
+told_in (Some t) line room h = word_in t line room (written_in DATA_CMD (frame_of line)) h
 
 pub bus_in : (log : List ℕ) (places room : ℕ)
     → length log ≤ LOG_WORDS
@@ -55,7 +53,7 @@ bus_in log places room f h g = λ i.
 
 -- ---- a line's own text
 
-pub own_none : (number : ℕ) (t : Transfer) (line : List ℕ) {d e : List ℕ} {r : ℕ}
+pub own_none : (number : ℕ) (t : Option Transfer) (line : List ℕ) {d e : List ℕ} {r : ℕ}
     → no_frame line ≡ true
     → LINE_ROOM ≤ length d
     → Appended d 0 (warning number) 47 e r
@@ -65,7 +63,7 @@ own_none number t line e h a = record {
   room = omega (arith, a.room);
 }
 
-pub own_told : (number : ℕ) (t : Transfer) (line : List ℕ) {d e : List ℕ} {r : ℕ}
+pub own_told : (number : ℕ) (t : Option Transfer) (line : List ℕ) {d e : List ℕ} {r : ℕ}
     → no_frame line ≡ false
     → LINE_ROOM ≤ length d
     → Appended d 0 (told t line (length d)) (length d) e r

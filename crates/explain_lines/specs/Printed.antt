@@ -1,24 +1,23 @@
 -- What explain prints of an input, line by line. This is the statement.
-use Rattle.std.specs.Prelude.{ℕ, List, [], ◌∷◌, ◌++◌, if◌then◌else◌}
+use Rattle.std.specs.Prelude.{ℕ, List, [], ◌∷◌, ◌++◌, if◌then◌else◌, Option, None}
 use Rattle.regs.specs.Log.{decode}
 use Rattle.bus.specs.Bus.{bus_sequence}
 use Rattle.text_hex.specs.Text.{lines}
 use Rattle.answer_frames.specs.Frames.{frame_of, is_answer}
 use Rattle.explain_bus.specs.Line.{sequence_text}
 use Rattle.explain_beside.specs.declared.transfer.Transfer.{Transfer}
-use Rattle.explain_beside.specs.declared.transfer.Transfer.TheVariants.{No}
 use Rattle.explain_beside.specs.Piece.{next, told}
 use Rattle.answer_lines.specs.Lines.{number_after, no_frame, warning, kept_on}
 
 -- between two lines: how many lines came, and of the open call what stands before its next frame, and its log
 pub record Open : Type 0 where
   pub lines : ℕ
-  pub transfer : Transfer
+  pub transfer : Option Transfer
   pub log : List ℕ
 
 -- behind so many lines, with no call open
 abbrev pub closed : ℕ → Open
-closed lines = record { lines = lines; transfer = No; log = [] }
+closed lines = record { lines = lines; transfer = None; log = [] }
 
 -- with an answer its call ends; every other line goes on with the call
 abbrev pub open_after : Open → List ℕ → Open
@@ -41,7 +40,7 @@ abbrev pub LINE_ROOM : ℕ
 LINE_ROOM = 16900
 
 -- the line's own text, or with its number that it is no answer frame
-abbrev pub own_text : ℕ → Transfer → List ℕ → List ℕ
+abbrev pub own_text : ℕ → Option Transfer → List ℕ → List ℕ
 own_text number transfer line = if no_frame line then warning number else told transfer line LINE_ROOM
 
 abbrev pub line_text : Open → List ℕ → List ℕ

@@ -4,22 +4,22 @@
 
 ghost use Rattle.std.specs.Prelude.{◌≡◌, ◌++◌, ◌+◌, ◌≤◌, length, take};
 ghost use Rattle.text_hex.specs.Appended.{Appended};
-ghost use Rattle.answer_lines.specs.Lines.{LOG_WORDS};
+ghost use Rattle.answer_lines.specs.Lines.{number_after, LOG_WORDS};
 ghost use Rattle.explain_lines.specs.Printed.{own_text, bus_text, LINE_ROOM};
-ghost use Rattle.explain_lines.specs.Inner.Said.{call_of, start_call, PLACES, BUS_ROOM, Lent, SaidAs};
+ghost use Rattle.explain_lines.specs.Inner.Said.{closed_call, start_call, PLACES, BUS_ROOM, Lent, SaidAs};
 
 use answer_frames::{frame_in, is_answer};
 use answer_lines::{keep_on, no_frame, number_after, push_warning};
 use explain_beside::beside::tell;
 use explain_beside::transfer::{Transfer, after};
-use explain_bus::line::bus_line;
+use explain_bus::line::{ROOM, bus_line};
 
 // How many lines came, how much of the open call's log is used, and what stands before its next frame.
 #[derive(Clone, Copy)]
 pub struct Call {
     pub lines: u64,
     pub used: usize,
-    pub transfer: Transfer,
+    pub transfer: Option<Transfer>,
 }
 
 // What is kept behind a line, and how much of the buffer its text fills.
@@ -29,75 +29,66 @@ pub struct Said {
     pub made: usize,
 }
 
-fn call_of(lines: u64, used: usize, transfer: Transfer) -> Call
-    ensures { result ≡ call_of lines used transfer }
-{
-    Call {
-        lines,
-        used,
-        transfer,
-    }
-}
-
 // Before the first line.
 pub fn start() -> Call
     ensures { result ≡ start_call }
 {
-    call_of(0, 0, Transfer::No)
+    Call::closed(0)
 }
 
-// A line's own text, or that it is no answer frame.
-fn push_own(number: u64, before: Transfer, line: &[u8], out: &mut [u8]) -> usize
-    requires { LINE_ROOM ≤ length out.old }
-    ensures { Appended out.old 0
-        (own_text number before line.now)
-        (length out.old) out.new result }
-{
-    if no_frame(line) {
-        return push_warning(out, number);
+impl Call {
+    // Behind so many lines, with no call open.
+    fn closed(lines: u64) -> Call
+        ensures { result ≡ closed_call lines }
+    {
+        Call {
+            lines,
+            used: 0,
+            transfer: None,
+        }
     }
-    tell(before, line, out)
+
+    // The next line's own text, or that it is no answer frame.
+    fn push_own(self, line: &[u8], out: &mut [u8]) -> usize
+        requires { LINE_ROOM ≤ length out.old }
+        ensures { Appended out.old 0
+            (own_text (number_after self.lines) self.transfer line.now)
+            (length out.old) out.new result }
+    {
+        if no_frame(line) {
+            return push_warning(out, number_after(self.lines));
+        }
+        tell(self.transfer, line, out)
+    }
+
+    // An answer's text behind the bus line of its call.
+    fn push_answer(self, line: &[u8], log: &[u32], places: &mut [u32], out: &mut [u8]) -> usize
+        requires used { self.used ≤ length log.now }
+        requires words { self.used ≤ LOG_WORDS }
+        requires signs { PLACES ≤ length places.old }
+        requires room { BUS_ROOM + LINE_ROOM ≤ length out.old }
+        ensures { Appended out.old 0
+            (bus_text (take self.used log.now) ++ own_text (number_after self.lines) self.transfer line.now)
+            (length out.old) out.new result }
+    {
+        let bus_end = push_bus(&log[..self.used], places, out);
+        bus_end + self.push_own(line, &mut out[bus_end..])
+    }
 }
 
-// The bus line of the log's used part, in the first `room` bytes of the buffer.
-fn push_bus(log: &[u32], used: usize, places: &mut [u32], out: &mut [u8], room: usize) -> usize
-    requires { (used ≤ length log.now)
-        × (used ≤ LOG_WORDS)
-        × (PLACES ≤ length places.old)
-        × (BUS_ROOM ≤ length out.old)
-        × (room ≡ BUS_ROOM) }
-    ensures { Appended out.old 0
-        (bus_text (take used log.now))
-        BUS_ROOM out.new result }
+// The bus line of a log, in the first bytes of the buffer.
+fn push_bus(log: &[u32], places: &mut [u32], out: &mut [u8]) -> usize
+    requires words { length log.now ≤ LOG_WORDS }
+    requires signs { PLACES ≤ length places.old }
+    requires room { BUS_ROOM ≤ length out.old }
+    ensures { Appended out.old 0 (bus_text log.now) BUS_ROOM out.new result }
 {
-    bus_line(&log[..used], places, &mut out[..room])
-}
-
-// An answer's text behind the bus line of its call.
-fn push_answer(
-    number: u64,
-    before: Transfer,
-    line: &[u8],
-    log: &[u32],
-    used: usize,
-    places: &mut [u32],
-    out: &mut [u8],
-) -> usize
-    requires { (used ≤ length log.now)
-        × (used ≤ LOG_WORDS)
-        × (PLACES ≤ length places.old)
-        × (BUS_ROOM + LINE_ROOM ≤ length out.old) }
-    ensures { Appended out.old 0
-        (bus_text (take used log.now) ++ own_text number before line.now)
-        (length out.old) out.new result }
-{
-    let a = push_bus(log, used, places, out, explain_bus::line::ROOM);
-    let b = push_own(number, before, line, &mut out[a..]);
-    a + b
+    bus_line(log, places, &mut out[..ROOM])
 }
 
 // The whole text of a line, which fills `held` bytes of its buffer: before an answer its call's
-// bus line, and with it the call ends.
+// bus line, and with it the call ends. The buffer is lent whole because its length shows that a
+// line that was cut is longer than every answer frame.
 pub fn explain_line(
     call: Call,
     text: &[u8],
@@ -112,16 +103,19 @@ pub fn explain_line(
         log.new out.new result }
 {
     let line = &text[..held];
-    let number = number_after(call.lines);
-    let used = call.used;
-    let before = call.transfer;
+    let lines = number_after(call.lines);
     if is_answer(frame_in(line)) {
-        let made = push_answer(number, before, line, log, used, places, out);
-        let next = call_of(number, 0, Transfer::No);
-        return Said { call: next, made };
+        let made = call.push_answer(line, log, places, out);
+        let call = Call::closed(lines);
+        return Said { call, made };
     }
-    let made = push_own(number, before, line, out);
-    let end = keep_on(line, log, used);
-    let next = call_of(number, end, after(before, line));
-    Said { call: next, made }
+    let made = call.push_own(line, out);
+    let used = keep_on(line, log, call.used);
+    let transfer = after(call.transfer, line);
+    let call = Call {
+        lines,
+        used,
+        transfer,
+    };
+    Said { call, made }
 }

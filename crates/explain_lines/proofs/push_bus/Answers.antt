@@ -1,15 +1,12 @@
--- `push_bus`: `bus_line`'s contract on the buffer's first `room` bytes, said of the buffer by `in_front` (proofs/Rooms.antt).
-use native.Mathlib.Omega.{arith}
-use mathlib.Core.Path.{◌≡◌}
-use lib.ListN.{length, take}
-use lib.Seq.{length-take-le}
+-- `push_bus`: `bus_line`'s contract on the buffer's first bytes, said of the buffer by `in_front` (proofs/Rooms.antt).
+use mathlib.Core.Path.{refl}
+use lib.ListN.{length}
+use Rattle.explain_lines.specs.Inner.Said.{BUS_ROOM}
 use Rattle.explain_lines.proofs.Rooms.{in_front}
 use Rattle.explain_lines.proofs.push_bus.Goals as goal
 
 pub returns : goal.returns
 returns c = let a = c.args in
-    let z : length (take a.used a.log.now) ≡ a.used =
-    length-take-le a.used a.log.now c.requires.0 in
-    in_front (take a.used a.log.now) (length a.places.now) a.room
-    (omega (arith, z, c.requires.1)) c.requires.3 c.requires.2 c.requires.4
+    in_front a.log.now (length a.places.now) BUS_ROOM
+    c.requires.words c.requires.room c.requires.signs refl
     c.bus_line.ensures c.bus_line.auto.out

@@ -1,17 +1,16 @@
 -- What a call of `explain_line` leaves and prints. Only contracts cite this.
-use Rattle.std.specs.Prelude.{ℕ, ◌+◌, ◌≤◌, List, ◌≡◌, length, take}
-use Rattle.explain_beside.specs.declared.transfer.Transfer.{Transfer}
-use Rattle.explain_beside.specs.declared.transfer.Transfer.TheVariants.{No}
+use Rattle.std.specs.Prelude.{ℕ, ◌+◌, ◌≤◌, List, ◌≡◌, length, take, None}
 use Rattle.answer_lines.specs.Lines.{LOG_WORDS}
 use Rattle.explain_lines.specs.Printed.{Open, open_after, line_text, LINE_ROOM}
 use Rattle.explain_lines.specs.declared.Call.{Call}
 use Rattle.explain_lines.specs.declared.Said.{Said}
 
-abbrev pub call_of : ℕ → ℕ → Transfer → Call
-call_of lines used transfer = record { lines = lines; used = used; transfer = transfer }
+-- behind so many lines, with no call open
+abbrev pub closed_call : ℕ → Call
+closed_call lines = record { lines = lines; used = 0; transfer = None }
 
 abbrev pub start_call : Call
-start_call = call_of 0 0 No
+start_call = closed_call 0
 
 -- what is kept, with the part of the log that is used
 abbrev pub open_of : Call → List ℕ → Open
