@@ -16,7 +16,7 @@ use text_stdin::next_line;
 use text_stdin::reads::End;
 use text_stdin::report::{unread, unwritten};
 
-// Line after line to the end of the input. How the input stands where the lines end, or that not all was written.
+// Line after line to the end of the input. Says how the input stands there, or why a text was not written.
 fn explain_all(
     rt: HostRuntime,
     chunk: &mut [u8],

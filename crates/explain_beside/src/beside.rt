@@ -115,7 +115,7 @@ fn word_line(transfer: Transfer, w: u32, out: &mut [u8]) -> usize
     text.at
 }
 
-// A line of an open transfer.
+// A line of an open transfer. Where the buffer has no room its text is empty, so 0 is where it ends.
 fn explain_after(transfer: Transfer, line: &[u8], out: &mut [u8]) -> usize
     ensures { Appended out.old 0
         (told_of transfer line.now (length out.old))

@@ -8,7 +8,7 @@ use answer_frames::{Frame, frame_in};
 use bus::Bus;
 use regs::fields::address_of;
 
-// The transfer of an open call, from its write to TAR on: the address written, and how its words left the bus.
+// The transfer of an open call, from its write to TAR on: the address, and how its words left the bus.
 #[derive(Clone, Copy)]
 pub struct Transfer {
     pub address: u32,

@@ -1,40 +1,32 @@
 // The log of a transfer, from its frames.
-ghost use Rattle.std.specs.Prelude.{◌+◌, ◌%◌, ◌<◌, ◌≤◌, length, [], ◌∷◌};
+ghost use Rattle.std.specs.Prelude.{◌≡◌, ◌+◌, ◌≤◌, length};
 ghost use Rattle.text_hex.specs.Appended.{Appended};
+ghost use Rattle.answer_frames.specs.Frames.{frame_of};
 ghost use Rattle.explain_bus.specs.Line.{kept_of, kept};
+ghost use Rattle.explain_bus.specs.Inner.Words.{entry_words};
 
 use answer_frames::{Frame, frame_in};
 
-fn put(log: &mut [u32], at: usize, word: u32) -> usize
-    requires { at < length log.old }
-    ensures { Appended log.old at (word ∷ []) 1 log.new result }
+// The two words of the entry that a line adds to a log with so many words.
+fn entry(line: &[u8], used: usize) -> Option<[u32; 2]>
+    ensures { entry_words result ≡ kept_of used (frame_of line.now) }
 {
-    log[at] = word;
-    at + 1
-}
-
-fn put_entry(log: &mut [u32], used: usize, offset: u32, w: u32) -> usize
-    requires { used + 2 ≤ length log.old }
-    ensures { Appended log.old used ((0x200 + offset % 256) ∷ w ∷ []) 2 log.new
-        result }
-{
-    let value = put(log, used, 0x200 + offset % 256);
-    put(log, value, w)
-}
-
-fn put_write(log: &mut [u32], used: usize, offset: u32, w: u32) -> usize
-    requires { used + 2 ≤ length log.old }
-    ensures { Appended log.old used
-        (kept_of used (Some (Frame.Write offset w)))
-        2 log.new result }
-{
-    if used == 0 {
-        if offset % 256 == regs::TAR as u32 {
-            return put_entry(log, used, offset, w);
+    match frame_in(line) {
+        Some(Frame::Write(offset, w)) if used > 0 || offset % 256 == u32::from(regs::TAR) => {
+            Some([0x200 + offset % 256, w])
         }
-        return used;
+        _ => None,
     }
-    put_entry(log, used, offset, w)
+}
+
+// Puts an entry behind the log's used words, and says where the log ends.
+fn put_entry(log: &mut [u32], used: usize, words: [u32; 2]) -> usize
+    requires { used + 2 ≤ length log.old }
+    ensures { Appended log.old used words 2 log.new result }
+{
+    log[used] = words[0];
+    log[used + 1] = words[1];
+    used + 2
 }
 
 #[tactic(auto, using(text_hex::proofs::Appends::nothing), unfolding(crate::specs::Line::kept))]
@@ -47,8 +39,8 @@ pub fn keep(line: &[u8], log: &mut [u32], used: usize) -> usize
     if log.len() < 2 || log.len() - 2 < used {
         return used;
     }
-    match frame_in(line) {
-        Some(Frame::Write(offset, w)) => put_write(log, used, offset, w),
-        _ => used,
+    match entry(line, used) {
+        None => used,
+        Some(words) => put_entry(log, used, words),
     }
 }

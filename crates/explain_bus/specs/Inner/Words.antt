@@ -1,5 +1,6 @@
--- The text of a sequence that stands in a buffer of words, as bus's `sign_word` makes them. Only contracts of inner functions cite this.
-use Rattle.std.specs.Prelude.{ℕ, ◌+◌, ◌/◌, ◌%◌, List, [], ◌∷◌, ◌++◌, eqb, length, if◌then◌else◌}
+-- The text of a sequence that stands in a buffer of words, as bus's `sign_word` makes them, and the words of an
+-- entry. Only contracts of inner functions cite this.
+use Rattle.std.specs.Prelude.{ℕ, ◌+◌, ◌/◌, ◌%◌, List, [], ◌∷◌, ◌++◌, eqb, length, if◌then◌else◌, Option, Some, None}
 use Rattle.text_hex.specs.Text.{LF}
 use Rattle.explain_bus.specs.Line.{name_text, address_text, byte_text, run_text}
 
@@ -21,3 +22,8 @@ words_text n (word ∷ words) = if eqb (word / 65536) 6 then words_text (n + 1) 
 
 unfoldable pub words_line : List ℕ → List ℕ
 words_line words = if eqb (length words) 0 then [] else (98 ∷ []) ++ ((117 ∷ []) ++ ((115 ∷ []) ++ (words_text 0 words ++ (LF ∷ []))))
+
+-- the words of an entry, or of none
+abbrev pub entry_words : Option (List ℕ) → List ℕ
+entry_words None = []
+entry_words (Some words) = words
