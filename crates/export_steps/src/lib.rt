@@ -193,19 +193,20 @@ pub extern "C" fn celadonsaw_step(
     ensures stores { Stores false words.old value read.old read.new }
 {
     regs::access::keep(read, words_access::store(words, value));
-    let code = words_steps::step(words, value);
-    if code == 0 {
-        by_points(words, value, false, kinds, lengths);
-        let a = celadonsaw_next_access(words, write);
-        // Field by field: then the access is put together in a register, and not in memory.
-        return Access {
-            kind: a.kind,
-            register: a.register,
-            number: a.number,
-            value: a.value,
-        };
+    match words_steps::step(words, value) {
+        Some(at) => words_access::access_at(words, at.group(), at.row(), write).into(),
+        None => {
+            by_points(words, value, false, kinds, lengths);
+            let a = celadonsaw_next_access(words, write);
+            // Field by field: then the access is put together in a register, and not in memory.
+            Access {
+                kind: a.kind,
+                register: a.register,
+                number: a.number,
+                value: a.value,
+            }
+        }
     }
-    words_access::access_at(words, code / 8, code % 8, write).into()
 }
 
 // ---- with a packet error code

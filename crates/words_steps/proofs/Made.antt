@@ -1,5 +1,5 @@
 -- A step that was made, and one that was not.
-use Prim.Native.Nat.{ℕ, ◌-◌, ◌<◌, ◌≤◌, ◌/◌, ◌%◌}
+use Prim.Native.Nat.{ℕ, ◌-◌, ◌<◌, ◌≤◌}
 use mathlib.Core.Path.{◌≡◌, refl}
 use mathlib.Core.Bool.{Bool, false}
 use mathlib.Core.List.{List}
@@ -11,33 +11,27 @@ use lib.ListN.{get_or}
 use Rattle.regs.specs.Fields.{level}
 use Rattle.words_points.specs.Held.{Live, advanced_held}
 use Rattle.words.specs.Inner.Words.{half_of, transfer_in, held_at}
-use Rattle.words_steps.specs.Inner.InPlace.{InPlace}
+use Rattle.words_steps.specs.Inner.InPlace.{Made, group_at, row_at}
+use Rattle.words_steps.specs.declared.Reached.{Reached}
 
 -- words e stand for where an access that read v leads from words s
 abbrev pub Leads : List ℕ → ℕ → List ℕ → Type 0
 Leads s v e = (coded : Bool) (kinds lengths : List ℕ) → held_at e ≡ advanced_held coded kinds lengths (held_at s) v
 
--- so they do from a row of a group, where H holds, and the code tells where
-abbrev pub Law : ℕ → ℕ → ℕ → ℕ → (List ℕ → Type 0) → (List ℕ → List ℕ) → List ℕ → Type 0
-Law group row code v H f s = get_or s 0 0 ≡ group
-    → get_or s 1 0 ≡ row
-    → H s
-    → Leads s v (f s) × (get_or (f s) 0 0 ≡ code / 8) × (get_or (f s) 1 0 ≡ code % 8)
-
 live_at : (s : List ℕ) (g : ℕ) → get_or s 0 0 ≡ g → ltb 7 g ≡ false → held_at s ≡ Live (transfer_in s)
 unfolding held_at
 live_at s g h k = rw (h, k) refl
 
-pub made : {s : List ℕ} {v code : ℕ} {e : List ℕ}
-    → eqb code 0 ≡ false
-    → ltb 7 (code / 8) ≡ false
-    → Leads s v e × (get_or e 0 0 ≡ code / 8) × (get_or e 1 0 ≡ code % 8)
-    → InPlace s v code e
-made {s} {v} {code} {e} some group l =
-    record { same = λ h. cc; moved = λ _. l.0; live = λ _. live_at e (code / 8) l.1 group; group = λ _. l.1; row = λ _. l.2 }
+pub made : {s : List ℕ} {v : ℕ} {reached : Reached} {e : List ℕ}
+    → ltb 7 (group_at reached) ≡ false
+    → Leads s v e × (get_or e 0 0 ≡ group_at reached) × (get_or e 1 0 ≡ row_at reached)
+    → Made s v reached e
+made {s} {v} {reached} {e} group l =
+    record { moved = l.0; live = live_at e (group_at reached) l.1 group; group = l.1; row = l.2 }
 
-pub not_made : {s : List ℕ} {v : ℕ} → InPlace s v 0 s
-not_made = record { same = λ _. refl; moved = λ h coded kinds lengths. cc; live = λ h. cc; group = λ h. cc; row = λ h. cc }
+-- from a row of a group, where H holds, the step that is made by f leads to a point
+abbrev pub Law : ℕ → ℕ → Reached → ℕ → (List ℕ → Type 0) → (List ℕ → List ℕ) → List ℕ → Type 0
+Law group row reached v H f s = get_or s 0 0 ≡ group → get_or s 1 0 ≡ row → H s → Made s v reached (f s)
 
 -- a number of 16 bits is kept by a word
 pub small : (n m : ℕ) → n ≤ half_of m → half_of n ≡ n

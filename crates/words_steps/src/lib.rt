@@ -8,59 +8,74 @@ mod read_blocking; // byte by byte
 mod write_async; // by places in the FIFO
 mod write_blocking; // byte by byte
 
-ghost use Rattle.words_steps.specs.Inner.InPlace.{InPlace};
+ghost use Rattle.std.specs.Prelude.{◌≡◌};
+ghost use Rattle.words_steps.specs.Inner.InPlace.{InPlace, group_at, row_at};
 
 use words::GROUP;
 
-// The points that these steps lead to: 8 times the group, and the row.
-const SOURCE: u64 = 8;
+// The point that a step led to.
+#[derive(Clone, Copy)]
+pub enum Reached {
+    // A look for an abort.
+    Source,
+    // In a blocking read.
+    Room,
+    Ask,
+    ReadLevel,
+    Take,
+    // In a blocking write.
+    Send,
+    Empty,
+    // In an async read.
+    Capacity,
+    Queued,
+    Level,
+    Fetch,
+    // In an async write.
+    Free,
+    Fill,
+    Full,
+}
 
-const ROOM: u64 = 16;
+impl Reached {
+    // The group of the point, as the words keep it.
+    pub fn group(self) -> u64
+        ensures { result ≡ group_at self }
+    {
+        match self {
+            Reached::Source => 1,
+            Reached::Room | Reached::Ask | Reached::ReadLevel | Reached::Take => 2,
+            Reached::Send | Reached::Empty => 3,
+            Reached::Capacity | Reached::Queued | Reached::Level | Reached::Fetch => 4,
+            Reached::Free | Reached::Fill | Reached::Full => 5,
+        }
+    }
 
-const ASK: u64 = 17;
-
-const READ_LEVEL: u64 = 18;
-
-const TAKE: u64 = 19;
-
-const SEND: u64 = 24;
-
-const EMPTY: u64 = 25;
-
-const CAPACITY: u64 = 32;
-
-const QUEUED: u64 = 33;
-
-const LEVEL: u64 = 34;
-
-const FETCH: u64 = 35;
-
-const FREE: u64 = 40;
-
-const FILL: u64 = 41;
-
-const FULL: u64 = 42;
+    // The point's row in its group.
+    pub fn row(self) -> u64
+        ensures { result ≡ row_at self }
+    {
+        match self {
+            Reached::Source => 0,
+            Reached::Room | Reached::Send | Reached::Capacity | Reached::Free => 0,
+            Reached::Ask | Reached::Empty | Reached::Queued | Reached::Fill => 1,
+            Reached::ReadLevel | Reached::Level | Reached::Full => 2,
+            Reached::Take | Reached::Fetch => 3,
+        }
+    }
+}
 
 // Makes the step after an access that read v, where it is a
-// frequent one, and tells the point that it led to; else 0.
-pub fn step(words: &mut [u64; 20], v: u32) -> u64
+// frequent one, and tells the point that it led to.
+pub fn step(words: &mut [u64; 20], v: u32) -> Option<Reached>
     ensures { InPlace words.old v result words.new }
 {
-    let group = words[GROUP];
-    if group == 1 {
-        return aborts::step(words, v);
+    match words[GROUP] {
+        1 => aborts::step(words, v),
+        2 => read_blocking::step(words, v),
+        3 => write_blocking::step(words, v),
+        4 => read_async::step(words, v),
+        5 => write_async::step(words, v),
+        _ => None,
     }
-    if group == 2 {
-        return read_blocking::step(words, v);
-    }
-    if group == 3 {
-        return write_blocking::step(words, v);
-    }
-    if group == 4 {
-        return read_async::step(words, v);
-    }
-    if group == 5 {
-        return write_async::step(words, v);
-    }
-    0
 }

@@ -2,12 +2,12 @@
 ghost use Rattle.std.specs.Prelude.{◌≡◌, get_or};
 ghost use Rattle.words_steps.specs.Inner.InPlace.{InPlace};
 
-use super::{FILL, FREE, SOURCE};
+use super::Reached;
 use regs::fields::level_of;
 use words::{COUNT, GROUP, INDEX, KIND, LEN, ROW, half, sized};
 
 // From `Free` to so many places to fill, or to a look for an abort where none is free.
-fn free(words: &mut [u64; 20], v: u32) -> u64
+fn free(words: &mut [u64; 20], v: u32) -> Option<Reached>
     requires { (get_or words.old 0 0 ≡ 5)
         × (get_or words.old 1 0 ≡ 0) }
     ensures { InPlace words.old v result words.new }
@@ -15,23 +15,23 @@ fn free(words: &mut [u64; 20], v: u32) -> u64
     sized(words);
     let level = level_of(v);
     if 16 < level {
-        return 0;
+        return None;
     }
     if level == 16 {
         words[GROUP] = 1;
         words[KIND] = 3;
-        return SOURCE;
+        return Some(Reached::Source);
     }
     if words[INDEX] % 65536 < words[LEN] % 65536 {
         words[ROW] = 1;
         words[COUNT] = (16 - level) as u64;
-        return FILL;
+        return Some(Reached::Fill);
     }
-    0
+    None
 }
 
 // A byte was sent: the next place is filled, or a look for an abort follows.
-fn filled(words: &mut [u64; 20], v: u32) -> u64
+fn filled(words: &mut [u64; 20], v: u32) -> Option<Reached>
     requires { (get_or words.old 0 0 ≡ 5)
         × (get_or words.old 1 0 ≡ 1) }
     ensures { InPlace words.old v result words.new }
@@ -40,7 +40,7 @@ fn filled(words: &mut [u64; 20], v: u32) -> u64
     let next = words[INDEX] % 65536 + 1;
     let len = words[LEN] % 65536;
     if len < next {
-        return 0;
+        return None;
     }
     let left = half(words[COUNT]).saturating_sub(1);
     if left == 0 {
@@ -48,35 +48,33 @@ fn filled(words: &mut [u64; 20], v: u32) -> u64
         words[ROW] = 0;
         words[KIND] = 3;
         words[INDEX] = next;
-        return SOURCE;
+        return Some(Reached::Source);
     }
     if next < len {
         words[INDEX] = next;
         words[COUNT] = left as u64;
-        return FILL;
+        return Some(Reached::Fill);
     }
-    0
+    None
 }
 
 // At `Full` a free place leads to `Free`.
-pub fn step(words: &mut [u64; 20], v: u32) -> u64
+pub fn step(words: &mut [u64; 20], v: u32) -> Option<Reached>
     requires { get_or words.old 0 0 ≡ 5 }
     ensures { InPlace words.old v result words.new }
 {
     sized(words);
-    let row = words[ROW];
-    if row == 0 {
-        return free(words, v);
-    }
-    if row == 1 {
-        return filled(words, v);
-    }
-    if row == 2 {
-        if level_of(v) < 16 {
-            words[ROW] = 0;
-            return FREE;
+    match words[ROW] {
+        0 => free(words, v),
+        1 => filled(words, v),
+        2 => {
+            if level_of(v) < 16 {
+                words[ROW] = 0;
+                Some(Reached::Free)
+            } else {
+                None
+            }
         }
-        return 0;
+        _ => None,
     }
-    0
 }

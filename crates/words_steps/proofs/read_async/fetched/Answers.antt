@@ -1,8 +1,7 @@
--- `fetched`: `half` and `less` give the bytes left. Some left, it is `byte_fetched`; none left but some
--- remaining, `last_fetched` (proofs/ReadAsync.antt); none remaining, the end of the read is not made here and
--- the words are unchanged (`not_made`).
-use Rattle.words_steps.proofs.Made.{made}
-use mathlib.Core.Path.{◌≡◌, refl, sym, ◌∙◌}
+-- `fetched`: `half` and `saturating_sub` give the bytes left. Some left, it is `byte_fetched`; none left but
+-- some remaining, `last_fetched` (proofs/ReadAsync.antt); none remaining, the end of the read is not made here
+-- and the words are unchanged.
+use mathlib.Core.Path.{◌≡◌, sym, ◌∙◌}
 use Prim.Native.Nat.{◌-◌, ◌%◌, ◌^◌}
 use lib.ListN.{get_or}
 use Rattle.words_steps.proofs.ReadAsync.{byte_fetched, last_fetched}
@@ -11,12 +10,12 @@ use Rattle.words_steps.proofs.read_async.fetched.Goals as goal
 pub returns-then-left-ne0 : goal.returns-then-left-ne0
 returns-then-left-ne0 c = let left : c.saturating_sub-left.result ≡ get_or c.args.words.now 5 0 % 2 ^ 16 - 1 =
     simp (c.saturating_sub-left.ensures, c.half.ensures) in
-    simp (left) (made refl refl
+    simp left
     (byte_fetched c.args.v c.args.words.now c.sized.ensures
-    c.requires.0 c.requires.1 (λ e. c.if-left-ne0.true (left ∙ e))))
+    c.requires.0 c.requires.1 (λ e. c.if-left-ne0.true (left ∙ e)))
 
 pub returns : goal.returns
 returns c = let left : c.saturating_sub-left.result ≡ get_or c.args.words.now 5 0 % 2 ^ 16 - 1 =
     simp (c.saturating_sub-left.ensures, c.half.ensures) in
-    made refl refl (last_fetched c.args.v c.args.words.now c.sized.ensures
-    c.requires.0 c.requires.1 (sym left ∙ c.if-left-ne0.false, c.if-words-eq0.false))
+    last_fetched c.args.v c.args.words.now c.sized.ensures
+    c.requires.0 c.requires.1 (sym left ∙ c.if-left-ne0.false, c.if-words-eq0.false)
