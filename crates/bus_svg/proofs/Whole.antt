@@ -23,7 +23,7 @@ pub whole : {s : Source} {chunk came log output errors before last : List ℕ} {
     → unread s chunk ≡ []
     → input.Calls room s chunk ls came Ended
     → Calls start_kept log ls output errors m
-    → Appended before 0 (last_warning m.done) 38 last made
+    → Appended before 0 (last_warning m.used) 38 last made
     → AllWritten (drawn_input came) output (errors ++ take made last)
 whole {came = came} {log = log} {output = output} {errors = errors} {before = before} {last = last} {ls = ls} {m = m} {made = made} room h u
     a b f =

@@ -17,19 +17,21 @@ use svg_lines::Kept;
 use text_stdin::next_line;
 use text_stdin::reads::{End, is_ended};
 
-// What is kept where the lines end, how the input stands then, and whether all was written.
-#[derive(Clone, Copy)]
+// What is kept where the lines end, how the input stands then, and whether all was written. That is no
+// `Result` of the other two, which are told of also where a write failed.
+#[derive(Clone, Copy, PartialEq, Eq)]
 struct Stopped {
     kept: Kept,
     end: End,
     written: bool,
 }
 
-fn put(rt: HostRuntime, picture: bool, text: &[u8]) -> bool {
-    if picture {
-        return rt.stdout().write_all(text).is_ok();
+// Writes a text of a line: the picture, or a warning.
+fn put(rt: HostRuntime, kept: Kept, text: &[u8]) -> bool {
+    match kept.used {
+        None => rt.stdout().write_all(text).is_ok(),
+        Some(_) => rt.stderr().write_all(text).is_ok(),
     }
-    rt.stderr().write_all(text).is_ok()
 }
 
 // Line after line to the picture, or to the end of the input.
@@ -60,8 +62,8 @@ fn draw_all(
         let s = svg_lines::draw_line(kept, line, held, log, places, out);
         kept = s.kept;
         let made = s.made;
-        written = put(rt, s.picture, &out[..made]);
-        if kept.done || !written {
+        written = put(rt, kept, &out[..made]);
+        if kept.used.is_none() || !written {
             break;
         }
     }
@@ -73,21 +75,14 @@ fn draw_all(
 fn finish(kept: Kept, end: End, out: &mut [u8]) -> usize
     requires { PICTURE_ROOM ≤ length out.old }
     ensures { Appended out.old 0
-        (if is_ended_at end then last_warning kept.done else [])
+        (if is_ended_at end then last_warning kept.used else [])
         38 out.new result }
 {
     if is_ended(end) {
-        return svg_lines::finish(kept, out);
+        svg_lines::finish(kept, out)
+    } else {
+        0
     }
-    0
-}
-
-// A picture that was written needs no word about the rest of the input, which is not read.
-fn report(rt: HostRuntime, done: bool, written: bool, end: End) {
-    if done & written {
-        return;
-    }
-    text_stdin::report::stopped(rt, b"bus_svg", written, end);
 }
 
 fn main(rt: HostRuntime) {
@@ -97,10 +92,10 @@ fn main(rt: HostRuntime) {
     let mut places = [0u32; 32768];
     let mut out = [0u8; 53000];
     let s = draw_all(rt, &mut chunk, &mut line, &mut log, &mut places, &mut out);
-    let kept = s.kept;
-    let end = s.end;
-    let written = s.written;
-    let made = finish(kept, end, &mut out);
-    put(rt, false, &out[..made]);
-    report(rt, kept.done, written, end);
+    let made = finish(s.kept, s.end, &mut out);
+    let _ = rt.stderr().write_all(&out[..made]);
+    // A picture that was written needs no word about the rest of the input, which is not read.
+    if s.kept.used.is_some() || !s.written {
+        text_stdin::report::stopped(rt, b"bus_svg", s.written, s.end);
+    }
 }

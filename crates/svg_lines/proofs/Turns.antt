@@ -1,14 +1,15 @@
 -- The turn of a line, from the texts that the functions put into their buffers.
 use Prim.Native.Nat.{ℕ, ◌≤◌}
 use native.Mathlib.Omega.{arith}
-use mathlib.Core.Bool.{Bool, true, false, true≢false}
+use mathlib.Core.Bool.{Bool, true, false}
+use Rattle.std.proofs.lemmas.Option.{none-some}
 use mathlib.Core.List.{List, [], ◌∷◌}
 use mathlib.Core.Path.{◌≡◌, refl, sym, ap, subst⁻¹, ◌∙◌}
 use lib.Dec.{ltb}
 use lib.ListN.{length, take, drop}
 use lib.Seq.{length-take-le}
 use borrow.Author.Tests.{le-ltb, lt-ltb, ne_eqb}
-use Rattle.std.specs.Prelude.{if◌then◌else◌}
+use Rattle.std.specs.Prelude.{if◌then◌else◌, Option, Some, None}
 use Rattle.regs.specs.Log.{decode}
 use Rattle.bus.specs.Bus.{Sign, bus_sequence}
 use Rattle.text_hex.specs.Appended.{Appended}
@@ -17,9 +18,8 @@ use Rattle.answer_frames.specs.Frames.{frame_of, is_answer}
 use Rattle.answer_lines.specs.Lines.{number_after, no_frame, warning, kept_on, LOG_WORDS, KeptOn}
 use Rattle.answer_lines.proofs.Signs.{signs_fit}
 use Rattle.svg_lines.specs.Drawn.{Turn, goes, ends, warned}
-use Rattle.svg_lines.specs.Inner.Said.{said, turn_by, PLACES, PICTURE_ROOM, picture_of, log_picture, SaidAs}
+use Rattle.svg_lines.specs.Inner.Said.{used_behind, UsedFits, turn_by, PLACES, PICTURE_ROOM, picture_of, log_picture, SaidAs}
 use Rattle.svg_lines.specs.declared.Kept.{Kept}
-use Rattle.svg_lines.specs.declared.Said.{Said}
 
 -- a picture does not depend on how much larger than needed the buffers are
 picture_in : (log : List ℕ) (places room : ℕ)
@@ -45,24 +45,24 @@ begins : (ss : List Sign) (n : ℕ) → svg_text ss n ≡ 60 ∷ drop 1 (svg_tex
 unfolding svg_text head_text opening_text
 begins ss n = refl
 
-drawn_if : (ss : List Sign) → turn_by (ltb 0 (length (picture_of ss))) [] (picture_of ss) ≡ ends ss
-drawn_if [] = refl
-drawn_if (s ∷ ss) =
+drawn_if : (log : List ℕ) (ss : List Sign) → turn_by (used_behind (length (picture_of ss))) log (picture_of ss) ≡ ends ss
+drawn_if log [] = refl
+drawn_if log (s ∷ ss) =
     let svg : List ℕ = svg_text (take 256 (s ∷ ss)) (length (s ∷ ss)) in
     let e : picture_of (s ∷ ss) ≡ svg =
     ap (λ (b : Bool). if b then [] else svg_text (take 256 (s ∷ ss)) (length (s ∷ ss))) (ne_eqb (length (s ∷ ss)) 0 (λ z. omega arith)) in
     let h = ap length (e ∙ begins (take 256 (s ∷ ss)) (length (s ∷ ss))) in
     let p : ltb 0 (length (picture_of (s ∷ ss))) ≡ true = lt-ltb 0 (length (picture_of (s ∷ ss))) (omega (arith, h)) in
-    λ i. turn_by (p i) [] (e i)
+    λ i. turn_by (if p i then None else Some 0) log (e i)
 
 -- a text of no byte is no picture
 ends_by : {before after : List ℕ} {most made : ℕ} (ss : List Sign) (log : List ℕ)
     → Appended before 0 (picture_of ss) most after made
     → made ≤ length after
-    → turn_by (ltb 0 made) (take 0 log) (take made after) ≡ ends ss
+    → turn_by (used_behind made) log (take made after) ≡ ends ss
 ends_by {before} {after} {most} {made} ss log a h =
     let z : length (picture_of ss) ≡ made = ap length (sym a.same) ∙ length-take-le made after h in
-    (λ i. turn_by (ltb 0 (sym z i)) [] (a.same i)) ∙ drawn_if ss
+    (λ i. turn_by (used_behind (sym z i)) log (a.same i)) ∙ drawn_if log ss
 
 pub warned_as : (number : ℕ) (line : List ℕ) {d e : List ℕ} {r : ℕ}
     → no_frame line ≡ true
@@ -75,59 +75,63 @@ not_warned number line e = record { same = sym (ap (λ (b : Bool). if b then war
 
 -- ---- a line
 
+abbrev used_or_none : Option ℕ → ℕ
+used_or_none None = 0
+used_or_none (Some used) = used
+
+same_used : {a b : ℕ} → Some a ≡ Some b → a ≡ b
+same_used e = ap used_or_none e
+
 abbrev turn_of : Bool → ℕ → List ℕ → List ℕ → Turn
 turn_of answer number log line = if answer then ends (bus_sequence (decode log)) else goes (kept_on log line) (warned number line)
 
-module _ {o : Kept} {log line out : List ℕ} {r : Said} {n : ℕ} (e : n ≡ number_after o.lines) where
-  pub of_behind : {used : ℕ}
-      → o.done ≡ true
-      → used ≤ LOG_WORDS
-      → r ≡ said n used true 0 false
-      → SaidAs o log line log out r
-  of_behind d u q = subst⁻¹ (λ (s : Said). SaidAs o log line log out s) q record {
+module _ {o : Kept} {log line out : List ℕ} {n : ℕ} (e : n ≡ number_after o.lines) where
+  pub of_behind : o.used ≡ None → SaidAs o log line log out (record { kept = record { lines = n; used = None }; made = 0 })
+  of_behind d = record {
     lines = e;
-    before = λ f. absurd (true≢false (sym d ∙ f));
-    ends = λ f. absurd (true≢false (sym d ∙ f));
+    before = λ used f. absurd (none-some _ (sym d ∙ f));
     behind = λ f. (refl, refl);
     made = omega arith;
-    used = u;
+    used = tt;
   }
 
-  pub of_answer : {out₀ : List ℕ} {made : ℕ}
-      → o.done ≡ false
+  pub of_answer : {out₀ : List ℕ} {used made : ℕ} {next : Option ℕ}
+      → o.used ≡ Some used
       → is_answer (frame_of line) ≡ true
-      → Appended out₀ 0 (log_picture (take o.used log)) (length out₀) out made
+      → Appended out₀ 0 (log_picture (take used log)) (length out₀) out made
       → length out ≡ length out₀
-      → r ≡ said n 0 (ltb 0 made) made (ltb 0 made)
-      → SaidAs o log line log out r
-  of_answer d f a z q = subst⁻¹ (λ (s : Said). SaidAs o log line log out s) q record {
-    lines = e;
-    before = λ _.
-        ends_by (bus_sequence (decode (take o.used log))) log a (omega (arith, a.room))
-        ∙ ap (λ (b : Bool). turn_of b (number_after o.lines) (take o.used log) line) (sym f);
-    ends = λ _. refl;
-    behind = λ g. absurd (true≢false (sym g ∙ d));
-    made = omega (arith, a.room);
-    used = omega arith;
-  }
+      → next ≡ used_behind made
+      → SaidAs o log line log out (record { kept = record { lines = n; used = next }; made = made })
+  of_answer {used = used} {made = made} d f a z q =
+      subst⁻¹ (λ (u : Option ℕ). SaidAs o log line log out (record { kept = record { lines = n; used = u }; made = made })) q record {
+        lines = e;
+        before = λ u g.
+            ends_by (bus_sequence (decode (take used log))) log a (omega (arith, a.room))
+            ∙ (λ i. turn_of (sym f i) (number_after o.lines) (take (same_used (sym d ∙ g) i) log) line);
+        behind = λ g. absurd (none-some _ (sym g ∙ d));
+        made = omega (arith, a.room);
+        used = fits (ltb 0 made);
+      }
+    where
+      fits : (b : Bool) → UsedFits (if b then None else Some 0)
+      fits true = tt
+      fits false = omega arith
 
-  pub of_other : {log' out₀ : List ℕ} {end made : ℕ}
-      → o.done ≡ false
+  pub of_other : {log' out₀ : List ℕ} {used end made : ℕ}
+      → o.used ≡ Some used
       → is_answer (frame_of line) ≡ false
       → PICTURE_ROOM ≤ length out₀
       → Appended out₀ 0 (warned n line) 47 out made
       → length out ≡ length out₀
-      → KeptOn log o.used line log' end
-      → r ≡ said n end false made false
-      → SaidAs o log line log' out r
-  of_other {log'} d f l a z k q = subst⁻¹ (λ (s : Said). SaidAs o log line log' out s) q record {
+      → KeptOn log used line log' end
+      → SaidAs o log line log' out (record { kept = record { lines = n; used = Some end }; made = made })
+  of_other {used = used} d f l a z k = record {
     lines = e;
-    before = λ _.
+    before = λ u g.
         (λ i. goes (k.same i) (a.same i))
-        ∙ ((λ i. goes (kept_on (take o.used log) line) (warned (e i) line))
-        ∙ ap (λ (b : Bool). turn_of b (number_after o.lines) (take o.used log) line) (sym f));
-    ends = λ _. refl;
-    behind = λ g. absurd (true≢false (sym g ∙ d));
+        ∙ ((λ i. goes (kept_on (take used log) line) (warned (e i) line))
+        ∙ (λ i. turn_of (sym f i) (number_after o.lines) (take (same_used (sym d ∙ g) i) log) line));
+    behind = λ g. absurd (none-some _ (sym g ∙ d));
     made = omega (arith, a.room);
     used = k.room;
   }

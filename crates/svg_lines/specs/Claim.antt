@@ -1,5 +1,5 @@
 -- The claim over calls of `draw_line` one after the other, and one of `finish`.
-use Rattle.std.specs.Prelude.{ℕ, ◌≤◌, true, false, List, [], ◌∷◌, ◌++◌, map, ◌≡◌, take}
+use Rattle.std.specs.Prelude.{ℕ, ◌≤◌, Some, None, List, [], ◌∷◌, ◌++◌, map, ◌≡◌, take}
 use Rattle.text_hex.specs.Text.{lines}
 use Rattle.text_hex.specs.Appended.{Appended}
 use Rattle.svg_lines.specs.Drawn.{Written, drawn_input}
@@ -11,15 +11,15 @@ use Rattle.svg_lines.specs.declared.Said.{Said}
 -- output and to standard error, and what is kept at the end. Behind the picture no more calls need be made.
 pub data Calls : Kept → List ℕ → List (List ℕ) → List ℕ → List ℕ → Kept → Type 0 where
   none : {k : Kept} {log : List ℕ} → Calls k log [] [] [] k
-  stops : {k : Kept} {log : List ℕ} {ls : List (List ℕ)} → k.done ≡ true → Calls k log ls [] [] k
+  stops : {k : Kept} {log : List ℕ} {ls : List (List ℕ)} → k.used ≡ None → Calls k log ls [] [] k
   puts : {k m : Kept} {log log' line out output errors : List ℕ} {ls : List (List ℕ)} {r : Said}
       → SaidAs k log line log' out r
-      → r.picture ≡ true
+      → r.kept.used ≡ None
       → Calls r.kept log' ls output errors m
       → Calls k log (line ∷ ls) (take r.made out ++ output) errors m
-  warns : {k m : Kept} {log log' line out output errors : List ℕ} {ls : List (List ℕ)} {r : Said}
+  warns : {k m : Kept} {log log' line out output errors : List ℕ} {ls : List (List ℕ)} {r : Said} {used : ℕ}
       → SaidAs k log line log' out r
-      → r.picture ≡ false
+      → r.kept.used ≡ Some used
       → Calls r.kept log' ls output errors m
       → Calls k log (line ∷ ls) output (take r.made out ++ errors) m
 
@@ -34,5 +34,5 @@ EveryInput = (log output errors before last input : List ℕ) (ls : List (List �
     → 8195 ≤ room
     → ls ≡ map (take room) (lines input)
     → Calls start_kept log ls output errors m
-    → Appended before 0 (last_warning m.done) 38 last made
+    → Appended before 0 (last_warning m.used) 38 last made
     → AllWritten (drawn_input input) output (errors ++ take made last)

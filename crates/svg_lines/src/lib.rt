@@ -6,28 +6,26 @@ ghost use Rattle.std.specs.Prelude.{◌≡◌, ◌≤◌, length, take};
 ghost use Rattle.text_hex.specs.Appended.{Appended};
 ghost use Rattle.answer_lines.specs.Lines.{LOG_WORDS};
 ghost use Rattle.svg_lines.specs.Drawn.{warned};
-ghost use Rattle.svg_lines.specs.Inner.Said.{start_kept, said, PLACES, PICTURE_ROOM, log_picture};
+ghost use Rattle.svg_lines.specs.Inner.Said.{start_kept, used_behind, PLACES, PICTURE_ROOM, log_picture};
 ghost use Rattle.svg_lines.specs.Inner.Said.{Lent, SaidAs, last_warning};
 
 use answer_frames::{frame_in, is_answer};
 use answer_lines::{keep_on, no_frame, number_after, push_warning};
-use text_tables::ends::push_text;
+use text_hex::text::Text;
 
-// How many lines came, how much of the open call's log is used, and whether the picture was drawn.
-#[derive(Clone, Copy)]
+// How many lines came, and how much of the open call's log is used. None is used where the picture was drawn.
+#[derive(Clone, Copy, PartialEq, Eq)]
 pub struct Kept {
     pub lines: u64,
-    pub used: usize,
-    pub done: bool,
+    pub used: Option<usize>,
 }
 
-// What is kept behind a line, how much of the buffer its text fills, and
-// whether that is the picture, for standard output, or for standard error.
-#[derive(Clone, Copy)]
+// What is kept behind a line, and how much of the buffer its text fills. That is the picture,
+// for standard output, where the picture was drawn, and else for standard error.
+#[derive(Clone, Copy, PartialEq, Eq)]
 pub struct Said {
     pub kept: Kept,
     pub made: usize,
-    pub picture: bool,
 }
 
 // Before the first line.
@@ -36,8 +34,7 @@ pub fn start() -> Kept
 {
     Kept {
         lines: 0,
-        used: 0,
-        done: false,
+        used: Some(0),
     }
 }
 
@@ -61,9 +58,10 @@ fn push_warned(number: u64, line: &[u8], out: &mut [u8]) -> usize
         result }
 {
     if no_frame(line) {
-        return push_warning(out, number);
+        push_warning(out, number)
+    } else {
+        0
     }
-    0
 }
 
 // What is written of a line, which fills `held` bytes of its buffer: at an
@@ -82,38 +80,47 @@ pub fn draw_line(
         log.new out.new result }
 {
     let lines = number_after(kept.lines);
-    let used = kept.used;
-    if kept.done {
-        return result(lines, used, true, 0, false);
-    }
+    let Some(used) = kept.used else {
+        let drawn = Kept { lines, used: None };
+        return Said {
+            kept: drawn,
+            made: 0,
+        };
+    };
     let line = &text[..held];
     if is_answer(frame_in(line)) {
         let made = push_picture(log, used, places, out);
-        return result(lines, 0, made > 0, made, made > 0);
+        let kept = Kept {
+            lines,
+            used: used_behind(made),
+        };
+        return Said { kept, made };
     }
     let made = push_warned(lines, line, out);
     let end = keep_on(line, log, used);
-    result(lines, end, false, made, false)
+    let kept = Kept {
+        lines,
+        used: Some(end),
+    };
+    Said { kept, made }
 }
 
-fn result(lines: u64, used: usize, done: bool, made: usize, picture: bool) -> Said
-    ensures { result ≡ said lines used done made picture }
+// Behind an answer: a text of no byte is no picture, and the log of the next call is empty.
+fn used_behind(made: usize) -> Option<usize>
+    ensures { result ≡ used_behind made }
 {
-    let kept = Kept { lines, used, done };
-    Said {
-        kept,
-        made,
-        picture,
-    }
+    if made > 0 { None } else { Some(0) }
 }
 
 // At the end of the input: that nothing was drawn, if so.
+#[tactic(auto, using(text_hex::proofs::Adding::no_text), unfolding(crate::specs::Drawn::nothing_drawn))]
 pub fn finish(kept: Kept, out: &mut [u8]) -> usize
     requires { PICTURE_ROOM ≤ length out.old }
-    ensures { Appended out.old 0 (last_warning kept.done) 38 out.new result }
+    ensures { Appended out.old 0 (last_warning kept.used) 38 out.new result }
 {
-    if kept.done {
-        return 0;
+    let mut text = Text::new(out, 0);
+    if kept.used.is_some() {
+        text.push_text(b"no whole call put anything on the bus\n");
     }
-    push_text(out, 0, b"no whole call put anything on the bus\n")
+    text.at
 }

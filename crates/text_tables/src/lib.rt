@@ -2,5 +2,4 @@
 #![tactic(auto)]
 
 pub mod decimal; // decimal numbers
-pub mod ends; // the same by a buffer and a place
 pub mod rows; // rows, flags and pairs

@@ -1,5 +1,5 @@
 -- What a call of `draw_line` leaves and writes. Only contracts cite this.
-use Rattle.std.specs.Prelude.{ℕ, ◌≤◌, Bool, true, false, List, [], ◌≡◌, eqb, length, take, if◌then◌else◌}
+use Rattle.std.specs.Prelude.{ℕ, ◌≤◌, List, [], ◌≡◌, eqb, ltb, length, take, if◌then◌else◌, Option, Some, None}
 use Rattle.regs.specs.Log.{decode}
 use Rattle.bus.specs.Bus.{Sign, bus_sequence}
 use Rattle.svg_text.specs.Picture.{svg_text}
@@ -9,10 +9,15 @@ use Rattle.svg_lines.specs.declared.Kept.{Kept}
 use Rattle.svg_lines.specs.declared.Said.{Said}
 
 abbrev pub start_kept : Kept
-start_kept = record { lines = 0; used = 0; done = false }
+start_kept = record { lines = 0; used = Some 0 }
 
-abbrev pub said : ℕ → ℕ → Bool → ℕ → Bool → Said
-said lines used done made picture = record { kept = record { lines = lines; used = used; done = done }; made = made; picture = picture }
+-- behind an answer: a picture, or the next call's log
+abbrev pub used_behind : ℕ → Option ℕ
+used_behind made = if ltb 0 made then None else Some 0
+
+abbrev pub UsedFits : Option ℕ → Type 0
+UsedFits None = Unit {0}
+UsedFits (Some used) = used ≤ LOG_WORDS
 
 -- how many signs a log can make, and the room for their picture
 abbrev pub PLACES : ℕ
@@ -34,25 +39,26 @@ pub record Lent (o : Kept) (text : List ℕ) (held : ℕ) (log places out : List
   pub cut : 8195 ≤ length text
   pub line : held ≤ length text
   pub words : length log ≡ LOG_WORDS
-  pub used : o.used ≤ LOG_WORDS
+  pub used : UsedFits o.used
   pub signs : PLACES ≤ length places
   pub room : PICTURE_ROOM ≤ length out
 
--- a picture, or a log and a warning
-abbrev pub turn_by : Bool → List ℕ → List ℕ → Turn
-turn_by true log text = draws text
-turn_by false log text = goes log text
+-- a picture, or the used part of a log and a warning
+abbrev pub turn_by : Option ℕ → List ℕ → List ℕ → Turn
+turn_by None log text = draws text
+turn_by (Some used) log text = goes (take used log) text
 
 -- a line before the picture is the line's turn; behind the picture nothing is written any more
 pub record SaidAs (o : Kept) (log line log' out : List ℕ) (r : Said) : Type 0 where
   pub lines : r.kept.lines ≡ number_after o.lines
-  pub before : o.done ≡ false
-      → turn_by r.picture (take r.kept.used log') (take r.made out) ≡ turn (number_after o.lines) (take o.used log) line
-  pub ends : o.done ≡ false → r.kept.done ≡ r.picture
-  pub behind : o.done ≡ true → (r.kept.done ≡ true) × (r.made ≡ 0)
+  pub before : (used : ℕ)
+      → o.used ≡ Some used
+      → turn_by r.kept.used log' (take r.made out) ≡ turn (number_after o.lines) (take used log) line
+  pub behind : o.used ≡ None → (r.kept.used ≡ None) × (r.made ≡ 0)
   pub made : r.made ≤ length out
-  pub used : r.kept.used ≤ LOG_WORDS
+  pub used : UsedFits r.kept.used
 
 -- what is warned at the end of the input
-abbrev pub last_warning : Bool → List ℕ
-last_warning done = if done then [] else nothing_drawn
+abbrev pub last_warning : Option ℕ → List ℕ
+last_warning None = []
+last_warning (Some used) = nothing_drawn
