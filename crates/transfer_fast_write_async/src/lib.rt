@@ -5,11 +5,12 @@
 #![tactic(auto)]
 
 ghost use Rattle.std.specs.Prelude.{true, false, Option, IfSome, ◌≡◌, ◌+◌, ◌<◌, ◌≤◌, length};
-ghost use Rattle.regs.specs.Inner.Recording.{room_of};
-ghost use Rattle.transfer.specs.Inner.Machine.{byte_at, go};
+ghost use Rattle.regs.specs.Inner.Recording.{Enters, room_of};
+ghost use Rattle.regs.specs.Registers.{DATA_CMD};
+ghost use Rattle.transfer.specs.Inner.Machine.{byte_at, fill_word, go};
 ghost use Rattle.transfer.specs.declared.Point.TheVariants.{WriteAsync};
 ghost use Rattle.transfer.specs.declared.FillPoint.TheVariants.{Free};
-ghost use Rattle.transfer_fast_write_async.specs.Inner.Fills.{Polls, StraightFill, Leads, Filled};
+ghost use Rattle.transfer_fast_write_async.specs.Inner.Fills.{Polls, StraightFill, Leads};
 
 use regs::access::Recording;
 use regs_runs::{has, read};
@@ -68,50 +69,75 @@ fn byte_at(last: bool, bytes: &[u8], at: usize, i: u16) -> u8
     }
 }
 
-// Fills so many places. The loop for a round that is not the last is
-// compiled without the tests for the last byte, which it does not reach.
-fn fill(t: Transfer, from: u16, count: u16, last: bool, bytes: &[u8], recording: &mut Recording)
-    requires { (from + count ≤ t.operation.len)
-        × (last ≡ false → from + count < t.operation.len)
-        × (t.operation.at + t.operation.len ≤ length bytes.now + 1)
-        × (recording.old.entries + count ≤ room_of recording.old) }
-    ensures { Filled t bytes.now from count recording.old recording.new }
+// Whether the bytes end in a round. The loop over the places of another
+// round is compiled without the tests for their end and for the last byte.
+fn is_last(i: u16, len: u16, space: u16) -> bool
+    requires { i ≤ len }
+    ensures ends { result ≡ true → len ≤ i + space }
+    ensures goes_on { result ≡ false → i + space < len }
 {
-    for n in 0..count {
-        let i = from + n;
-        let w = word_of_fill(
-            byte_at(last, bytes, t.operation.at, i),
-            i,
-            t.operation.len,
-            t.operation.send_stop & last,
-        );
-        recording.put_write(regs::DATA_CMD, w);
+    len - i <= space
+}
+
+// Whether no byte is left. Only a last round can find that.
+fn has_ended(last: bool, i: u16, len: u16) -> bool
+    ensures ended { result ≡ true → i ≡ len }
+    ensures goes_on { result ≡ false → last ≡ true → i ≡ len → ⊥ }
+{
+    if last {
+        if i == len {
+            return true;
+        }
     }
+    false
+}
+
+// Fills a place with byte i.
+fn fill(t: Transfer, i: u16, last: bool, bytes: &[u8], recording: &mut Recording)
+    requires { (i < t.operation.len)
+        × (last ≡ false → i + 1 < t.operation.len)
+        × (t.operation.at + t.operation.len ≤ length bytes.now + 1)
+        × (recording.old.entries < room_of recording.old) }
+    ensures { Enters recording.old (0x200 + DATA_CMD)
+        (fill_word (byte_at bytes.now t.operation.at i) i t.operation.len t.operation.send_stop)
+        recording.new }
+{
+    let w = word_of_fill(
+        byte_at(last, bytes, t.operation.at, i),
+        i,
+        t.operation.len,
+        t.operation.send_stop & last,
+    );
+    recording.put_write(regs::DATA_CMD, w);
 }
 
 // Round after round, until the bytes end or a round does not lead straight on. A place
-// without a byte ends the rounds: the operation waits for its STOP, or is done, and the next one comes.
+// without a byte leaves both loops: the operation waits for its STOP, or is done.
 fn run(t: Transfer, from: u16, bytes: &[u8], recording: &mut Recording) -> Option<Point>
     requires { (from ≤ t.operation.len)
         × (t.operation.at + t.operation.len ≤ length bytes.now + 1)
         × (recording.old.entries ≤ room_of recording.old) }
     ensures { Leads t bytes.now recording.old (go (WriteAsync (Free from))) recording.new (Ok result) }
 {
-    // No `for` is plainer: a round goes on by as many bytes as it has places for.
+    let len = t.operation.len;
     let mut i = from;
-    while let Some(space) = planned(i, t.operation.len, recording) {
-        let rest = t.operation.len - i;
-        let count = space.min(rest);
+    'xmit: loop {
+        let Some(space) = planned(i, len, recording) else {
+            return Some(Point::WriteAsync(FillPoint::Free(i)));
+        };
         let _free = read(recording, regs::TXFLR);
-        fill(t, i, count, rest <= space, bytes, recording);
-        if count < space {
-            return wait_for_stop(t.operation.send_stop, Ok(()));
+        let last = is_last(i, len, space);
+        for n in 0..space {
+            if has_ended(last, i + n, len) {
+                break 'xmit;
+            }
+            fill(t, i + n, last, bytes, recording);
         }
         let _source = read(recording, regs::TX_ABRT_SOURCE);
         let _again = read(recording, regs::TXFLR);
-        i += count;
+        i += space;
     }
-    Some(Point::WriteAsync(FillPoint::Free(i)))
+    wait_for_stop(t.operation.send_stop, Ok(()))
 }
 
 // The rounds from a byte on, or from past the last one, where the bytes are within the buffer,

@@ -1,24 +1,38 @@
--- `run`: a round leads on to the next (`one_round` of proofs/Fills.antt) or to the operation's end (`last_round`), and
--- `lead_after` adds it to the rounds before it.
-use Rattle.std.proofs.Common.{arith, ◌≤◌, ◌+◌}
-use Rattle.transfer_fast_write_async.proofs.Filling.{lead_after}
-use Rattle.transfer_fast_write_async.proofs.Fills.{one_round, last_round}
+-- `run`: in the inner loop a place more is filled (`one_filled` of proofs/Filling.antt), since each place of a round that
+-- is not the last has a byte, and the test for the end tells of the others (`more_bytes`). At the break no byte is left
+-- and a place is, which ends the operation (`last_round` of proofs/Fills.antt); where all places are filled, the poll
+-- that `planned` looked at leads to the next round (`one_round`). `lead_after` adds a round to those before it.
+use Rattle.std.proofs.Common.{arith, refl, ◌≡◌, ◌<◌, ◌+◌}
+use Rattle.transfer_fast_write_async.proofs.Filling.{one_filled, lead_after}
+use Rattle.transfer_fast_write_async.proofs.Fills.{more_bytes, place_room, one_round, last_round}
 use Rattle.transfer_fast_write_async.proofs.run.Goals as goal
 
-pub loop-space-preserved : goal.loop-space-preserved
-loop-space-preserved c =
-    let g = c.loop-space.invariant in
-    let within : c.loop-space.i + c.min-count.result ≤ c.args.t.operation.len = omega (arith, c.min-count.ensures, g.within) in
+pub loop-n-preserved : goal.loop-n-preserved
+loop-n-preserved c =
+    let g = c.loop-n.invariant in
+    let before : c.xmit.i + c.loop-n.n < c.args.t.operation.len =
+    more_bytes c.is_last-last.result c.xmit.i c.loop-n.n c.args.t.operation.len c.in-Some.space c.is_last-last.ensures.goes_on c.loop-n-test.true g.within
+    (c.has_ended.ensures.goes_on c.if-has_ended.false) in
     record {
-      came = lead_after g.came (one_round (c.in-Some.ensures) (omega arith) c.read-free.ensures g.within
-          (omega (arith, c.min-count.ensures)) c.fill.ensures c.if-count-space.false within c.read-source.ensures
-          c.read-again.ensures);
-      within = within;
+      filled = one_filled g.filled before (place_room c.in-Some.ensures c.read-free.ensures c.loop-n-test.true before)
+          (omega arith) refl c.fill.ensures;
+      within = omega (arith, before);
     }
 
-pub returns-then-count-space : goal.returns-then-count-space
-returns-then-count-space c =
-    let g = c.loop-space.invariant in
-    lead_after g.came (last_round (c.in-Some.ensures) (omega arith) c.read-free.ensures g.within
-    (omega (arith, c.min-count.ensures)) c.fill.ensures c.if-count-space.true
-    (omega (arith, c.min-count.ensures, c.if-count-space.true, g.within)) c.wait_for_stop.ensures)
+pub xmit-preserved : goal.xmit-preserved
+xmit-preserved c =
+    let g = c.xmit.invariant in
+    let f = c.loop-n.invariant in
+    let all : c.in-Some.space ≡ c.loop-n.n = omega (arith, c.loop-n-test.false, c.loop-n.auto.n-end) in
+    record {
+      came = lead_after g.came (rw all (one_round c.in-Some.ensures (omega arith) c.read-free.ensures g.within
+          (omega (arith, all)) f.filled (omega (arith, all)) f.within c.read-source.ensures c.read-again.ensures));
+      within = rw all f.within;
+    }
+
+pub returns : goal.returns
+returns c =
+    let g = c.xmit.invariant in
+    lead_after g.came (last_round c.in-Some.ensures (omega arith) c.read-free.ensures g.within
+    (omega (arith, c.loop-n-test.true)) c.loop-n.invariant.filled c.loop-n-test.true
+    (c.has_ended.ensures.ended c.if-has_ended.true) c.wait_for_stop.ensures)
