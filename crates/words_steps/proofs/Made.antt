@@ -27,11 +27,11 @@ pub made : {s : List ℕ} {v : ℕ} {reached : Reached} {e : List ℕ}
     → Leads s v e × (get_or e 0 0 ≡ group_at reached) × (get_or e 1 0 ≡ row_at reached)
     → Made s v reached e
 made {s} {v} {reached} {e} group l =
-    record { moved = l.0; live = live_at e (group_at reached) l.1 group; group = l.1; row = l.2 }
+    record { moved = l.0; live = live_at e (group_at reached) l.1 group; at = (l.1, l.2) }
 
--- from a row of a group, where H holds, the step that is made by f leads to a point
-abbrev pub Law : ℕ → ℕ → Reached → ℕ → (List ℕ → Type 0) → (List ℕ → List ℕ) → List ℕ → Type 0
-Law group row reached v H f s = get_or s 0 0 ≡ group → get_or s 1 0 ≡ row → H s → Made s v reached (f s)
+-- from a point, where H holds, the step that is made by f leads to another
+abbrev pub Law : Reached → Reached → ℕ → (List ℕ → Type 0) → (List ℕ → List ℕ) → List ℕ → Type 0
+Law from to v H f s = get_or s 0 0 ≡ group_at from → get_or s 1 0 ≡ row_at from → H s → Made s v to (f s)
 
 -- a number of 16 bits is kept by a word
 pub small : (n m : ℕ) → n ≤ half_of m → half_of n ≡ n

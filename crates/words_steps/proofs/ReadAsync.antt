@@ -23,9 +23,9 @@ module _ (v : ℕ) where
   abbrev no_words_to : List ℕ → List ℕ
   no_words_to s = set (set s 1 2) 8 0
 
-  pub no_words : (s : List ℕ) → length s ≡ 20 → Law 4 0 Level v no_words_if no_words_to s
+  pub no_words : (s : List ℕ) → length s ≡ 20 → Law Capacity Level v no_words_if no_words_to s
   unfolding held_at transfer_in place_in point_at step_of held_in who_in round_at queue_at step_round batch_step places queued
-  no_words = each (Law 4 0 Level v no_words_if no_words_to)
+  no_words = each (Law Capacity Level v no_words_if no_words_to)
       (λ a g r h. made refl ((λ coded kinds lengths. simp (g, r, le-ltb 16 (level v) h.0, h.1)), g, refl))
 
   -- `Capacity` to `Queue`
@@ -35,9 +35,9 @@ module _ (v : ℕ) where
   abbrev words_to_queue_to : List ℕ → List ℕ
   words_to_queue_to s = set (set (set s 1 1) 5 (min (get_or s 7 0 % 2 ^ 16) (16 - level v))) 8 (min (get_or s 7 0 % 2 ^ 16) (16 - level v))
 
-  pub words_to_queue : (s : List ℕ) → length s ≡ 20 → Law 4 0 Queued v words_to_queue_if words_to_queue_to s
+  pub words_to_queue : (s : List ℕ) → length s ≡ 20 → Law Capacity Queued v words_to_queue_if words_to_queue_to s
   unfolding held_at transfer_in place_in point_at step_of held_in who_in round_at queue_at step_round batch_step places queued
-  words_to_queue = each (Law 4 0 Queued v words_to_queue_if words_to_queue_to) (λ a g r h. made refl (
+  words_to_queue = each (Law Capacity Queued v words_to_queue_if words_to_queue_to) (λ a g r h. made refl (
     (λ coded kinds lengths.
         let q : ℕ = a.w7 % 2 ^ 16 in
         let n : ℕ = min q (16 - level v) in
@@ -53,9 +53,9 @@ module _ (v : ℕ) where
   abbrev last_queued_to : List ℕ → List ℕ
   last_queued_to s = set (set s 7 (get_or s 7 0 % 2 ^ 16 - 1)) 1 2
 
-  pub last_queued : (s : List ℕ) → length s ≡ 20 → Law 4 1 Level v last_queued_if last_queued_to s
+  pub last_queued : (s : List ℕ) → length s ≡ 20 → Law Queued Level v last_queued_if last_queued_to s
   unfolding held_at transfer_in place_in point_at step_of held_in who_in round_at queue_at step_round queued
-  last_queued = each (Law 4 1 Level v last_queued_if last_queued_to) (λ a g r h. made refl (
+  last_queued = each (Law Queued Level v last_queued_if last_queued_to) (λ a g r h. made refl (
     (λ coded kinds lengths.
         let q : ℕ = a.w7 % 2 ^ 16 in
         simp (g, r, h, small (q - 1) a.w7 (omega arith))),
@@ -70,9 +70,9 @@ module _ (v : ℕ) where
   abbrev word_queued_to : List ℕ → List ℕ
   word_queued_to s = set (set s 7 (get_or s 7 0 % 2 ^ 16 - 1)) 5 (get_or s 5 0 % 2 ^ 16 - 1)
 
-  pub word_queued : (s : List ℕ) → length s ≡ 20 → Law 4 1 Queued v word_queued_if word_queued_to s
+  pub word_queued : (s : List ℕ) → length s ≡ 20 → Law Queued Queued v word_queued_if word_queued_to s
   unfolding held_at transfer_in place_in point_at step_of held_in who_in round_at queue_at step_round queued
-  word_queued = each (Law 4 1 Queued v word_queued_if word_queued_to) (λ a g r h. made refl (
+  word_queued = each (Law Queued Queued v word_queued_if word_queued_to) (λ a g r h. made refl (
     (λ coded kinds lengths.
         let q : ℕ = a.w7 % 2 ^ 16 in
         let n : ℕ = a.w5 % 2 ^ 16 in
@@ -88,9 +88,9 @@ module _ (v : ℕ) where
   abbrev level_read_to : List ℕ → List ℕ
   level_read_to s = set (set (set (set s 0 1) 1 0) 3 2) 5 (level v)
 
-  pub level_read : (s : List ℕ) → length s ≡ 20 → Law 4 2 Source v level_read_if level_read_to s
+  pub level_read : (s : List ℕ) → length s ≡ 20 → Law Level Source v level_read_if level_read_to s
   unfolding held_at transfer_in place_in point_at step_of held_in who_in round_at queue_at step_round abort_at caller_at
-  level_read = each (Law 4 2 Source v level_read_if level_read_to)
+  level_read = each (Law Level Source v level_read_if level_read_to)
       (λ a g r h. made refl (
         (λ coded kinds lengths. simp (g, r, mod-eq_of_lt {n = level v} {m = 2 ^ 16} (omega arith))),
         refl,
@@ -104,9 +104,9 @@ module _ (v : ℕ) where
   abbrev byte_fetched_to : List ℕ → List ℕ
   byte_fetched_to s = set s 5 (get_or s 5 0 % 2 ^ 16 - 1)
 
-  pub byte_fetched : (s : List ℕ) → length s ≡ 20 → Law 4 3 Fetch v byte_fetched_if byte_fetched_to s
+  pub byte_fetched : (s : List ℕ) → length s ≡ 20 → Law Fetch Fetch v byte_fetched_if byte_fetched_to s
   unfolding held_at transfer_in place_in point_at step_of held_in who_in round_at queue_at step_round fetching
-  byte_fetched = each (Law 4 3 Fetch v byte_fetched_if byte_fetched_to) (λ a g r h. made refl (
+  byte_fetched = each (Law Fetch Fetch v byte_fetched_if byte_fetched_to) (λ a g r h. made refl (
     (λ coded kinds lengths.
         let n : ℕ = a.w5 % 2 ^ 16 in
         simp (g, r, ne_eqb (n - 1) 0 h, small (n - 1) a.w5 (omega arith))),
@@ -121,7 +121,7 @@ module _ (v : ℕ) where
   abbrev last_fetched_to : List ℕ → List ℕ
   last_fetched_to s = set s 1 0
 
-  pub last_fetched : (s : List ℕ) → length s ≡ 20 → Law 4 3 Capacity v last_fetched_if last_fetched_to s
+  pub last_fetched : (s : List ℕ) → length s ≡ 20 → Law Fetch Capacity v last_fetched_if last_fetched_to s
   unfolding held_at transfer_in place_in point_at step_of held_in who_in round_at queue_at step_round fetching next_turn
-  last_fetched = each (Law 4 3 Capacity v last_fetched_if last_fetched_to)
+  last_fetched = each (Law Fetch Capacity v last_fetched_if last_fetched_to)
       (λ a g r h. made refl ((λ coded kinds lengths. simp (g, r, h.0, ne_eqb (a.w6 % 2 ^ 16) 0 h.1)), g, refl))

@@ -22,9 +22,9 @@ module _ (v : ℕ) where
   abbrev room_to : List ℕ → List ℕ
   room_to s = set s 1 1
 
-  pub room : (s : List ℕ) → length s ≡ 20 → Law 2 0 Ask v room_if room_to s
+  pub room : (s : List ℕ) → length s ≡ 20 → Law Room Ask v room_if room_to s
   unfolding held_at transfer_in place_in point_at step_of held_in who_in read_at step_read room_step places
-  room = each (Law 2 0 Ask v room_if room_to) (λ a g r h. made refl ((λ coded kinds lengths. simp (g, r, not_over v h, some_free v h)), g, refl))
+  room = each (Law Room Ask v room_if room_to) (λ a g r h. made refl ((λ coded kinds lengths. simp (g, r, not_over v h, some_free v h)), g, refl))
 
   -- `Ask` to `Level`
   abbrev ask_if : List ℕ → Type 0
@@ -33,9 +33,9 @@ module _ (v : ℕ) where
   abbrev ask_to : List ℕ → List ℕ
   ask_to s = set s 1 2
 
-  pub ask : (s : List ℕ) → length s ≡ 20 → Law 2 1 ReadLevel v ask_if ask_to s
+  pub ask : (s : List ℕ) → length s ≡ 20 → Law Ask ReadLevel v ask_if ask_to s
   unfolding held_at transfer_in place_in point_at step_of held_in who_in read_at step_read
-  ask = each (Law 2 1 ReadLevel v ask_if ask_to) (λ a g r h. made refl ((λ coded kinds lengths. simp (g, r)), g, refl))
+  ask = each (Law Ask ReadLevel v ask_if ask_to) (λ a g r h. made refl ((λ coded kinds lengths. simp (g, r)), g, refl))
 
   -- `Level` to a look for an abort: no byte is there
   abbrev empty_if : List ℕ → Type 0
@@ -44,9 +44,9 @@ module _ (v : ℕ) where
   abbrev empty_to : List ℕ → List ℕ
   empty_to s = set (set (set s 0 1) 1 0) 3 0
 
-  pub empty : (s : List ℕ) → length s ≡ 20 → Law 2 2 Source v empty_if empty_to s
+  pub empty : (s : List ℕ) → length s ≡ 20 → Law ReadLevel Source v empty_if empty_to s
   unfolding held_at transfer_in place_in point_at step_of held_in who_in read_at step_read level_step abort_at caller_at
-  empty = each (Law 2 2 Source v empty_if empty_to) (λ a g r h. made refl ((λ coded kinds lengths. simp (g, r, eq-eqb _ _ h)), refl, refl))
+  empty = each (Law ReadLevel Source v empty_if empty_to) (λ a g r h. made refl ((λ coded kinds lengths. simp (g, r, eq-eqb _ _ h)), refl, refl))
 
   -- `Level` to `Take`: a byte is there
   abbrev level_read_if : List ℕ → Type 0
@@ -55,9 +55,9 @@ module _ (v : ℕ) where
   abbrev level_read_to : List ℕ → List ℕ
   level_read_to s = set s 1 3
 
-  pub level_read : (s : List ℕ) → length s ≡ 20 → Law 2 2 Take v level_read_if level_read_to s
+  pub level_read : (s : List ℕ) → length s ≡ 20 → Law ReadLevel Take v level_read_if level_read_to s
   unfolding held_at transfer_in place_in point_at step_of held_in who_in read_at step_read level_step
-  level_read = each (Law 2 2 Take v level_read_if level_read_to) (λ a g r h. made refl ((λ coded kinds lengths. simp (g, r, ne_eqb _ _ h)), g, refl))
+  level_read = each (Law ReadLevel Take v level_read_if level_read_to) (λ a g r h. made refl ((λ coded kinds lengths. simp (g, r, ne_eqb _ _ h)), g, refl))
 
   -- `Take` to `Room` of the next byte, where one follows
   abbrev take_if : List ℕ → Type 0
@@ -66,9 +66,9 @@ module _ (v : ℕ) where
   abbrev take_to : List ℕ → List ℕ
   take_to s = set (set s 1 0) 4 (get_or s 4 0 % 2 ^ 16 + 1)
 
-  pub take : (s : List ℕ) → length s ≡ 20 → Law 2 3 Room v take_if take_to s
+  pub take : (s : List ℕ) → length s ≡ 20 → Law Take Room v take_if take_to s
   unfolding held_at transfer_in place_in point_at step_of held_in who_in read_at step_read
-  take = each (Law 2 3 Room v take_if take_to) (λ a g r h. made refl (
+  take = each (Law Take Room v take_if take_to) (λ a g r h. made refl (
     (λ coded kinds lengths.
         let i : ℕ = a.w4 % 2 ^ 16 in
         let n : ℕ = a.w15 % 2 ^ 16 in

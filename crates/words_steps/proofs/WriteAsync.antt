@@ -12,7 +12,7 @@ use Rattle.words_points.specs.Held.{held_in}
 use Rattle.words_points.specs.Inner.Numbers.{abort_at, caller_at, fill_at, point_at}
 use Rattle.words.specs.Inner.Words.{who_in, place_in, transfer_in, held_at}
 use Rattle.words.proofs.Cells.{each}
-use Rattle.words_steps.specs.declared.Reached.TheVariants.{Source, Free, Fill}
+use Rattle.words_steps.specs.declared.Reached.TheVariants.{Source, Free, Fill, Full}
 use Rattle.words_steps.proofs.Made.{Law, made, small, not_over, some_free}
 
 module _ (v : ℕ) where
@@ -23,9 +23,9 @@ module _ (v : ℕ) where
   abbrev none_free_to : List ℕ → List ℕ
   none_free_to s = set (set s 0 1) 3 3
 
-  pub none_free : (s : List ℕ) → length s ≡ 20 → Law 5 0 Source v none_free_if none_free_to s
+  pub none_free : (s : List ℕ) → length s ≡ 20 → Law Free Source v none_free_if none_free_to s
   unfolding held_at transfer_in place_in point_at step_of held_in who_in fill_at step_fill free_step places filling abort_at caller_at
-  none_free = each (Law 5 0 Source v none_free_if none_free_to) (λ a g r h. made refl ((λ coded kinds lengths. simp (g, r, h)), refl, r))
+  none_free = each (Law Free Source v none_free_if none_free_to) (λ a g r h. made refl ((λ coded kinds lengths. simp (g, r, h)), refl, r))
 
   -- `Free` to `Fill`
   abbrev some_to_fill_if : List ℕ → Type 0
@@ -34,9 +34,9 @@ module _ (v : ℕ) where
   abbrev some_to_fill_to : List ℕ → List ℕ
   some_to_fill_to s = set (set s 1 1) 5 (16 - level v)
 
-  pub some_to_fill : (s : List ℕ) → length s ≡ 20 → Law 5 0 Fill v some_to_fill_if some_to_fill_to s
+  pub some_to_fill : (s : List ℕ) → length s ≡ 20 → Law Free Fill v some_to_fill_if some_to_fill_to s
   unfolding held_at transfer_in place_in point_at step_of held_in who_in fill_at step_fill free_step places filling
-  some_to_fill = each (Law 5 0 Fill v some_to_fill_if some_to_fill_to)
+  some_to_fill = each (Law Free Fill v some_to_fill_if some_to_fill_to)
       (λ a g r h. made refl (
         (λ coded kinds lengths. simp (
           g,
@@ -57,9 +57,9 @@ module _ (v : ℕ) where
   abbrev last_filled_to : List ℕ → List ℕ
   last_filled_to s = set (set (set (set s 0 1) 1 0) 3 3) 4 (get_or s 4 0 % 2 ^ 16 + 1)
 
-  pub last_filled : (s : List ℕ) → length s ≡ 20 → Law 5 1 Source v last_filled_if last_filled_to s
+  pub last_filled : (s : List ℕ) → length s ≡ 20 → Law Fill Source v last_filled_if last_filled_to s
   unfolding held_at transfer_in place_in point_at step_of held_in who_in fill_at step_fill after_index filling abort_at caller_at
-  last_filled = each (Law 5 1 Source v last_filled_if last_filled_to) (λ a g r h. made refl (
+  last_filled = each (Law Fill Source v last_filled_if last_filled_to) (λ a g r h. made refl (
     (λ coded kinds lengths.
         let i : ℕ = a.w4 % 2 ^ 16 in
         let n : ℕ = a.w15 % 2 ^ 16 in
@@ -75,9 +75,9 @@ module _ (v : ℕ) where
   abbrev place_filled_to : List ℕ → List ℕ
   place_filled_to s = set (set s 4 (get_or s 4 0 % 2 ^ 16 + 1)) 5 (get_or s 5 0 % 2 ^ 16 - 1)
 
-  pub place_filled : (s : List ℕ) → length s ≡ 20 → Law 5 1 Fill v place_filled_if place_filled_to s
+  pub place_filled : (s : List ℕ) → length s ≡ 20 → Law Fill Fill v place_filled_if place_filled_to s
   unfolding held_at transfer_in place_in point_at step_of held_in who_in fill_at step_fill after_index filling
-  place_filled = each (Law 5 1 Fill v place_filled_if place_filled_to) (λ a g r h. made refl (
+  place_filled = each (Law Fill Fill v place_filled_if place_filled_to) (λ a g r h. made refl (
     (λ coded kinds lengths.
         let i : ℕ = a.w4 % 2 ^ 16 in
         let n : ℕ = a.w15 % 2 ^ 16 in
@@ -103,6 +103,6 @@ module _ (v : ℕ) where
   abbrev to_free_to : List ℕ → List ℕ
   to_free_to s = set s 1 0
 
-  pub to_free : (s : List ℕ) → length s ≡ 20 → Law 5 2 Free v to_free_if to_free_to s
+  pub to_free : (s : List ℕ) → length s ≡ 20 → Law Full Free v to_free_if to_free_to s
   unfolding held_at transfer_in place_in point_at step_of held_in who_in fill_at step_fill full_step places
-  to_free = each (Law 5 2 Free v to_free_if to_free_to) (λ a g r h. made refl ((λ coded kinds lengths. simp (g, r, not_over v h, some_free v h)), g, refl))
+  to_free = each (Law Full Free v to_free_if to_free_to) (λ a g r h. made refl ((λ coded kinds lengths. simp (g, r, not_over v h, some_free v h)), g, refl))

@@ -10,7 +10,7 @@ use Rattle.words_points.specs.Held.{held_in}
 use Rattle.words_points.specs.Inner.Numbers.{write_at, abort_at, caller_at, point_at}
 use Rattle.words.specs.Inner.Words.{who_in, place_in, transfer_in, held_at}
 use Rattle.words.proofs.Cells.{each}
-use Rattle.words_steps.specs.declared.Reached.TheVariants.{Source, Empty}
+use Rattle.words_steps.specs.declared.Reached.TheVariants.{Source, Send, Empty}
 use Rattle.words_steps.proofs.Made.{Law, made}
 
 module _ (v : ℕ) where
@@ -21,9 +21,9 @@ module _ (v : ℕ) where
   abbrev send_to : List ℕ → List ℕ
   send_to s = set s 1 1
 
-  pub send : (s : List ℕ) → length s ≡ 20 → Law 3 0 Empty v send_if send_to s
+  pub send : (s : List ℕ) → length s ≡ 20 → Law Send Empty v send_if send_to s
   unfolding held_at transfer_in place_in point_at step_of held_in who_in write_at step_write
-  send = each (Law 3 0 Empty v send_if send_to) (λ a g r h. made refl ((λ coded kinds lengths. simp (g, r)), g, refl))
+  send = each (Law Send Empty v send_if send_to) (λ a g r h. made refl ((λ coded kinds lengths. simp (g, r)), g, refl))
 
   -- `Empty` to a look for an abort: the FIFO is empty
   abbrev empty_if : List ℕ → Type 0
@@ -32,9 +32,9 @@ module _ (v : ℕ) where
   abbrev empty_to : List ℕ → List ℕ
   empty_to s = set (set (set s 0 1) 1 0) 3 1
 
-  pub empty : (s : List ℕ) → length s ≡ 20 → Law 3 1 Source v empty_if empty_to s
+  pub empty : (s : List ℕ) → length s ≡ 20 → Law Empty Source v empty_if empty_to s
   unfolding held_at transfer_in place_in point_at step_of held_in who_in write_at step_write abort_at caller_at
-  empty = each (Law 3 1 Source v empty_if empty_to) (λ a g r h. made refl ((λ coded kinds lengths. simp (g, r, h)), refl, refl))
+  empty = each (Law Empty Source v empty_if empty_to) (λ a g r h. made refl ((λ coded kinds lengths. simp (g, r, h)), refl, refl))
 
   -- `Empty` again
   abbrev waiting_if : List ℕ → Type 0
@@ -43,6 +43,6 @@ module _ (v : ℕ) where
   abbrev waiting_to : List ℕ → List ℕ
   waiting_to s = s
 
-  pub waiting : (s : List ℕ) → length s ≡ 20 → Law 3 1 Empty v waiting_if waiting_to s
+  pub waiting : (s : List ℕ) → length s ≡ 20 → Law Empty Empty v waiting_if waiting_to s
   unfolding held_at transfer_in place_in point_at step_of held_in who_in write_at step_write
-  waiting = each (Law 3 1 Empty v waiting_if waiting_to) (λ a g r h. made refl ((λ coded kinds lengths. simp (g, r, h)), g, r))
+  waiting = each (Law Empty Empty v waiting_if waiting_to) (λ a g r h. made refl ((λ coded kinds lengths. simp (g, r, h)), g, r))

@@ -1,14 +1,14 @@
 // fn read_and_clear_abort_reason on words, where no abort was read.
 ghost use Rattle.std.specs.Prelude.{◌≡◌, get_or};
-ghost use Rattle.words_steps.specs.Inner.InPlace.{InPlace};
+ghost use Rattle.words_steps.specs.Inner.InPlace.{At, InPlace};
+ghost use Rattle.words_steps.specs.declared.Reached.TheVariants.{Source};
 
 use super::Reached;
 use words::{BATCH, COUNT, GROUP, INDEX, KIND, LEN, REMAINING, ROW, half, sized};
 
 // A byte was written: to the next one, where one follows.
 fn written(words: &mut [u64; 20], v: u32) -> Option<Reached>
-    requires { (get_or words.old 0 0 ≡ 1)
-        × (get_or words.old 1 0 ≡ 0)
+    requires { (At words.old Source)
         × (get_or words.old 3 0 ≡ 1)
         × (v ≡ 0) }
     ensures { InPlace words.old v result words.new }
@@ -25,8 +25,7 @@ fn written(words: &mut [u64; 20], v: u32) -> Option<Reached>
 
 // A batch arrived: its bytes are to be fetched.
 fn arrived(words: &mut [u64; 20], v: u32) -> Option<Reached>
-    requires { (get_or words.old 0 0 ≡ 1)
-        × (get_or words.old 1 0 ≡ 0)
+    requires { (At words.old Source)
         × (get_or words.old 3 0 ≡ 2)
         × (v ≡ 0) }
     ensures { InPlace words.old v result words.new }

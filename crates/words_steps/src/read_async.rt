@@ -1,6 +1,7 @@
 // fn read_async_internal on words.
 ghost use Rattle.std.specs.Prelude.{◌≡◌, get_or};
-ghost use Rattle.words_steps.specs.Inner.InPlace.{InPlace};
+ghost use Rattle.words_steps.specs.Inner.InPlace.{At, InPlace};
+ghost use Rattle.words_steps.specs.declared.Reached.TheVariants.{Capacity, Queued, Fetch};
 
 use super::Reached;
 use regs::fields::level_of;
@@ -8,8 +9,7 @@ use words::{BATCH, COUNT, GROUP, KIND, QUEUE, REMAINING, ROW, half, sized};
 
 // From `Capacity` to so many words to queue, or to `Level`.
 fn capacity(words: &mut [u64; 20], v: u32) -> Option<Reached>
-    requires { (get_or words.old 0 0 ≡ 4)
-        × (get_or words.old 1 0 ≡ 0) }
+    requires { At words.old Capacity }
     ensures { InPlace words.old v result words.new }
 {
     sized(words);
@@ -31,8 +31,7 @@ fn capacity(words: &mut [u64; 20], v: u32) -> Option<Reached>
 
 // A word was queued.
 fn queued(words: &mut [u64; 20], v: u32) -> Option<Reached>
-    requires { (get_or words.old 0 0 ≡ 4)
-        × (get_or words.old 1 0 ≡ 1) }
+    requires { At words.old Queued }
     ensures { InPlace words.old v result words.new }
 {
     sized(words);
@@ -48,8 +47,7 @@ fn queued(words: &mut [u64; 20], v: u32) -> Option<Reached>
 
 // A byte was fetched: the next one, or the next round where bytes remain.
 fn fetched(words: &mut [u64; 20], v: u32) -> Option<Reached>
-    requires { (get_or words.old 0 0 ≡ 4)
-        × (get_or words.old 1 0 ≡ 3) }
+    requires { At words.old Fetch }
     ensures { InPlace words.old v result words.new }
 {
     sized(words);

@@ -1,6 +1,7 @@
 // fn write_async_internal on words.
 ghost use Rattle.std.specs.Prelude.{◌≡◌, get_or};
-ghost use Rattle.words_steps.specs.Inner.InPlace.{InPlace};
+ghost use Rattle.words_steps.specs.Inner.InPlace.{At, InPlace};
+ghost use Rattle.words_steps.specs.declared.Reached.TheVariants.{Free, Fill};
 
 use super::Reached;
 use regs::fields::level_of;
@@ -8,8 +9,7 @@ use words::{COUNT, GROUP, INDEX, KIND, LEN, ROW, half, sized};
 
 // From `Free` to so many places to fill, or to a look for an abort where none is free.
 fn free(words: &mut [u64; 20], v: u32) -> Option<Reached>
-    requires { (get_or words.old 0 0 ≡ 5)
-        × (get_or words.old 1 0 ≡ 0) }
+    requires { At words.old Free }
     ensures { InPlace words.old v result words.new }
 {
     sized(words);
@@ -32,8 +32,7 @@ fn free(words: &mut [u64; 20], v: u32) -> Option<Reached>
 
 // A byte was sent: the next place is filled, or a look for an abort follows.
 fn filled(words: &mut [u64; 20], v: u32) -> Option<Reached>
-    requires { (get_or words.old 0 0 ≡ 5)
-        × (get_or words.old 1 0 ≡ 1) }
+    requires { At words.old Fill }
     ensures { InPlace words.old v result words.new }
 {
     sized(words);

@@ -38,12 +38,15 @@ row_at R.Free = 0
 row_at R.Fill = 1
 row_at R.Full = 2
 
--- the words stand for the transfer after an access that read v, which has not ended, and its group and row are told
+-- the words are at the point
+abbrev pub At : List ℕ → Reached → Type 0
+At s point = (get_or s 0 0 ≡ group_at point) × (get_or s 1 0 ≡ row_at point)
+
+-- the words stand for the transfer after an access that read v, which has not ended, and are at the point that is told
 pub record Made (s : List ℕ) (v : ℕ) (reached : Reached) (e : List ℕ) : Type 0 where
   pub moved : (coded : Bool) (kinds lengths : List ℕ) → held_at e ≡ advanced_held coded kinds lengths (held_at s) v
   pub live : held_at e ≡ Live (transfer_in e)
-  pub group : get_or e 0 0 ≡ group_at reached
-  pub row : get_or e 1 0 ≡ row_at reached
+  pub at : At e reached
 
 -- where the step is not made, the words are the same
 abbrev pub InPlace : List ℕ → ℕ → Option Reached → List ℕ → Type 0

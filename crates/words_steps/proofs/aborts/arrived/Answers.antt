@@ -14,5 +14,5 @@ returns c = let least : c.min-n.result ≡ min (get_or c.args.words.now 5 0 % 2 
     simp (c.min-n.ensures, c.half-level.ensures, c.half-remaining.ensures) in
     simp (least, c.half-remaining.ensures)
     (to_fetch c.args.v c.args.words.now c.sized.ensures
-    c.requires.0 c.requires.1
-    (c.requires.2, c.requires.3, omega arith, λ e. c.if-n-eq0.false (least ∙ e)))
+    c.requires.0.0 c.requires.0.1
+    (c.requires.1, c.requires.2, omega arith, λ e. c.if-n-eq0.false (least ∙ e)))

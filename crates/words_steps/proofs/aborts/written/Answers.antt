@@ -4,4 +4,4 @@ use Rattle.words_steps.proofs.aborts.written.Goals as goal
 
 pub returns-then-next-words : goal.returns-then-next-words
 returns-then-next-words c = to_send c.args.v c.args.words.now c.sized.ensures
-    c.requires.0 c.requires.1 (c.requires.2, c.requires.3, c.if-next-words.true)
+    c.requires.0.0 c.requires.0.1 (c.requires.1, c.requires.2, c.if-next-words.true)
