@@ -20,6 +20,7 @@ use words::{ADDRESS, ROW, WORD};
 // The access that is next: kind 1 reads the register, 2 writes the value to it,
 // 3 is a mark (register 0: a poll that is not done; 1: a reset of the block),
 // and 0 is the end, with the answer's number and, as value, its detail.
+// Kinds, registers and answers are numbers here, as programs in C get them.
 #[repr(C)]
 #[derive(Clone, Copy)]
 pub struct Access {

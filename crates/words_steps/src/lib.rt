@@ -1,5 +1,6 @@
 // The frequent steps of a transfer, made on its words: nothing is decoded, and
 // only words that change are stored. What is not frequent is left as it is.
+// Group, row and kind are read and stored as numbers, since programs in C keep the words.
 #![tactic(auto)]
 
 mod aborts; // behind fn read_and_clear_abort_reason
