@@ -16,23 +16,21 @@ use explain_frames::{explain, push_words};
 use regs::fields::{byte_of, has_stop, is_read};
 use text_hex::text::Text;
 
+// The row of a condition's name.
 fn row_of(condition: Condition) -> usize
     ensures row { result ≡ condition_row condition }
     ensures in_table { result < 3 }
 {
-    match condition {
-        Condition::Start => 0,
-        Condition::Restart => 1,
-    }
+    condition as usize
 }
 
-// START or RESTART, and the address with its direction.
-fn push_addressed(text: &mut Text, row: usize, address: u32, read: bool)
-    requires room { Room 13 text.old }
-    requires in_table { row < 3 }
-    ensures { Added text.old (addressed_text row address read) 13 text.new }
+// START or RESTART, and the address with its direction. That stays the bool which `is_read` and `letter` know:
+// a Direction would be made of it, and turned back for the letter.
+fn push_addressed(text: &mut Text, condition: Condition, address: u32, read: bool)
+    requires { Room 13 text.old }
+    ensures { Added text.old (addressed_text condition address read) 13 text.new }
 {
-    push_name(text, row);
+    push_name(text, row_of(condition));
     text.push(b' ');
     text.push_hex2(address);
     text.push(letter(read));
@@ -44,7 +42,7 @@ fn push_opening(text: &mut Text, condition: Option<Condition>, address: u32, rea
     ensures { Added text.old (opening_text condition address read) 13 text.new }
 {
     if let Some(first) = condition {
-        push_addressed(text, row_of(first), address, read);
+        push_addressed(text, first, address, read);
     }
 }
 

@@ -14,18 +14,19 @@ towards read = if read then Reading else Writing
 abbrev pub direction_letter_of : Bool → ℕ
 direction_letter_of read = if read then 114 else 119
 
--- START or RESTART by its row, and the address byte
-unfoldable pub addressed_text : ℕ → ℕ → Bool → List ℕ
-addressed_text row address read = name_text row ++ address_text (address * 2 + direction_bit (towards read))
-
 -- the row of a condition's name
 abbrev pub condition_row : Condition → ℕ
 condition_row Start = 0
 condition_row Restart = 1
 
+-- START or RESTART, and the address byte
+unfoldable pub addressed_text : Condition → ℕ → Bool → List ℕ
+addressed_text condition address read = name_text (condition_row condition)
+    ++ address_text (address * 2 + direction_bit (towards read))
+
 unfoldable pub opening_text : Option Condition → ℕ → Bool → List ℕ
 opening_text None address read = []
-opening_text (Some condition) address read = addressed_text (condition_row condition) address read
+opening_text (Some condition) address read = addressed_text condition address read
 
 abbrev pub data_text : Bool → ℕ → List ℕ
 data_text read w = if read then run_text 1 else byte_text (dat w)
