@@ -113,6 +113,7 @@ fn word_line(transfer: Transfer, w: u32, out: &mut [u8]) -> usize
     text.at
 }
 
+#[tactic(auto, using(text_hex::proofs::Appends::nothing, text_hex::proofs::Appends::within), unfolding(crate::specs::Piece::told_of))]
 // A line of an open transfer. Where the buffer has no room its text is empty, so 0 is where it ends.
 fn explain_after(transfer: Transfer, line: &[u8], out: &mut [u8]) -> usize
     ensures { Appended out.old 0
