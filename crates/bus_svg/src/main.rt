@@ -15,7 +15,7 @@ ghost use Rattle.svg_lines.specs.Inner.Said.{PLACES, PICTURE_ROOM, last_warning}
 use std::io::Print;
 use svg_lines::Kept;
 use text_stdin::next_line;
-use text_stdin::reads::{End, is_ended};
+use text_stdin::reads::End;
 
 // What is kept where the lines end, how the input stands then, and whether all was written. That is no
 // `Result` of the other two, which are told of also where a write failed.
@@ -35,6 +35,7 @@ fn put(rt: HostRuntime, kept: Kept, text: &[u8]) -> bool {
 }
 
 // Line after line to the picture, or to the end of the input.
+#[tactic(auto, using(text_stdin::proofs::EveryLine::held_fits))]
 fn draw_all(
     rt: HostRuntime,
     chunk: &mut [u8],
@@ -55,10 +56,7 @@ fn draw_all(
     for _ in 0..u64::MAX {
         let l = next_line(rt, source, chunk, line);
         source = l.source;
-        if !l.some {
-            break;
-        }
-        let held = l.held;
+        let Some(held) = l.held else { break };
         let s = svg_lines::draw_line(kept, line, held, log, places, out);
         kept = s.kept;
         let made = s.made;
@@ -78,7 +76,7 @@ fn finish(kept: Kept, end: End, out: &mut [u8]) -> usize
         (if is_ended_at end then last_warning kept.used else [])
         38 out.new result }
 {
-    if is_ended(end) {
+    if end == End::Ended {
         svg_lines::finish(kept, out)
     } else {
         0

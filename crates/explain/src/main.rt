@@ -17,6 +17,7 @@ use text_stdin::reads::End;
 use text_stdin::report::{unread, unwritten};
 
 // Line after line to the end of the input. Says how the input stands there, or why a text was not written.
+#[tactic(auto, using(text_stdin::proofs::EveryLine::held_fits))]
 fn explain_all(
     rt: HostRuntime,
     chunk: &mut [u8],
@@ -36,10 +37,8 @@ fn explain_all(
     for _ in 0..u64::MAX {
         let l = next_line(rt, source, chunk, line);
         source = l.source;
-        if !l.some {
-            break;
-        }
-        let s = explain_lines::explain_line(call, line, l.held, log, places, out);
+        let Some(held) = l.held else { break };
+        let s = explain_lines::explain_line(call, line, held, log, places, out);
         call = s.call;
         rt.stdout().write_all(&out[..s.made])?;
     }

@@ -9,9 +9,11 @@ use lib.Dec.{eqb, ltb}
 use lib.ListN.{length, take}
 use lib.Seq.{length-take-le, take-nil}
 use borrow.Author.Tests.{ltb-true, ltb-false}
+use Rattle.std.specs.Prelude.{Option, Some, None}
+use Rattle.std.proofs.lemmas.Option.{none-some}
 use Rattle.text_hex.specs.Text.{LF, last_line, lines}
 use Rattle.text_stdin.specs.Reads.{is_open_at, is_ended_at, Reads, none, bytes, answered_0, failed}
-use Rattle.text_stdin.specs.Handed.{before_lf, after_lf, has_lf, unread, stands, HandedOut, last_by, lines_to}
+use Rattle.text_stdin.specs.Handed.{before_lf, after_lf, has_lf, unread, stands, is_line, held_if, HandedOut, last_by, lines_to}
 use Rattle.text_stdin.specs.declared.Source.{Source}
 use Rattle.text_stdin.specs.declared.Line.{Line}
 use Rattle.text_stdin.specs.declared.reads.End.{End}
@@ -23,13 +25,13 @@ pub data Calls (room : ℕ) : Source → List ℕ → List (List ℕ) → List �
   ends : {s : Source} {chunk chunk' line : List ℕ} {r : Line}
       → length line ≡ room
       → (h : HandedOut s chunk chunk' line r)
-      → r.some ≡ false
+      → r.held ≡ None
       → Calls room s chunk [] h.came r.source.end
-  goes : {s : Source} {chunk chunk' line : List ℕ} {r : Line} {texts : List (List ℕ)} {rest : List ℕ} {e : End}
+  goes : {s : Source} {chunk chunk' line : List ℕ} {r : Line} {held : ℕ} {texts : List (List ℕ)} {rest : List ℕ} {e : End}
       → length line ≡ room
       → (h : HandedOut s chunk chunk' line r)
-      → r.some ≡ true
-      → Calls room r.source chunk' texts rest e → Calls room s chunk (take r.held line ∷ texts) (h.came ++ rest) e
+      → r.held ≡ Some held
+      → Calls room r.source chunk' texts rest e → Calls room s chunk (take held line ∷ texts) (h.came ++ rest) e
 
 -- ---- reads: none follows the end of the input
 
@@ -107,27 +109,47 @@ ended_line Ended held h = (refl, ltb-true 0 held h)
 ended_line Failed held h = absurd (true≢false (sym h))
 ended_line OutOfTurns held h = absurd (true≢false (sym h))
 
+-- what is handed out tells whether there is a line
+no_held : (b : Bool) (n : ℕ) → held_if b n ≡ None → b ≡ false
+no_held true n e = absurd (none-some n (sym e))
+no_held false n e = refl
+
+abbrev held_or_none : Option ℕ → ℕ
+held_or_none None = 0
+held_or_none (Some n) = n
+
+some_held : (b : Bool) (n : ℕ) {m : ℕ} → held_if b n ≡ Some m → (b ≡ true) × (n ≡ m)
+some_held true n e = (refl, ap held_or_none e)
+some_held false n {m} e = absurd (none-some m e)
+
 module _ {s : Source} {chunk chunk' line : List ℕ} {r : Line} (h : HandedOut s chunk chunk' line r) where
   abbrev all : List ℕ
   all = unread s chunk ++ h.came
 
-  held_is : r.held ≡ length (take (length line) (before_lf all))
-  held_is = sym (length-take-le r.held line h.fits) ∙ ap length h.text
+  held_is : h.filled ≡ length (take (length line) (before_lf all))
+  held_is = sym (length-take-le h.filled line h.fits) ∙ ap length h.text
 
-  no_line : 0 < length line → r.some ≡ false → (has_lf all ≡ false) × (last_by r.source.end (before_lf all) ≡ [])
+  -- a line that is handed out stands in the buffer
+  pub held_fits : {n : ℕ} → r.held ≡ Some n → n ≤ length line
+  held_fits e = omega (arith, h.fits, (some_held (is_line (has_lf all) h.last h.filled) h.filled (sym h.held ∙ e)).1)
+
+  abbrev some : Bool
+  some = is_line (has_lf all) h.last h.filled
+
+  no_line : 0 < length line → r.held ≡ None → (has_lf all ≡ false) × (last_by r.source.end (before_lf all) ≡ [])
   no_line l e =
-      let b = either (has_lf all) (is_ended_at h.last && ltb 0 r.held) (sym h.some ∙ e) in
-      let t : r.held ≤ 0 → before_lf all ≡ [] = λ z. no_text (length line) (before_lf all) l (omega (arith, held_is)) in
-      (b.0, rw (h.end, b.0) (none_last h.last r.held (before_lf all) t b.1))
+      let b = either (has_lf all) (is_ended_at h.last && ltb 0 h.filled) (no_held some h.filled (sym h.held ∙ e)) in
+      let t : h.filled ≤ 0 → before_lf all ≡ [] = λ z. no_text (length line) (before_lf all) l (omega (arith, held_is)) in
+      (b.0, rw (h.end, b.0) (none_last h.last h.filled (before_lf all) t b.1))
 
   -- behind the end of the input there is no line
-  over : s.end ≡ Ended → unread s chunk ≡ [] → (all ≡ []) × (r.some ≡ false) × (r.source.end ≡ Ended)
+  over : s.end ≡ Ended → unread s chunk ≡ [] → (all ≡ []) × (r.held ≡ None) × (r.source.end ≡ Ended)
   unfolding has_lf before_lf
   over e u =
       let d = shut e h.reads in
       let a : all ≡ [] = rw (u, d.0) in
-      let z : r.held ≡ 0 = held_is ∙ (rw (a, take-nil (length line))) in
-      (a, h.some ∙ (rw (a, d.1, z)), h.end ∙ (rw (a, d.1)))
+      let z : h.filled ≡ 0 = held_is ∙ (rw (a, take-nil (length line))) in
+      (a, h.held ∙ (rw (a, d.1, z)), h.end ∙ (rw (a, d.1)))
 
 ended : {room : ℕ} {s : Source} {chunk : List ℕ} {texts : List (List ℕ)} {came : List ℕ} {e : End}
     → Calls room s chunk texts came e
@@ -135,25 +157,27 @@ ended : {room : ℕ} {s : Source} {chunk : List ℕ} {texts : List (List ℕ)} {
     → unread s chunk ≡ []
     → (texts ≡ []) × (came ≡ []) × (e ≡ Ended)
 ended (ends z h e) o u = (refl, (shut o h.reads).0, (over h o u).2)
-ended (goes z h e k) o u = absurd (true≢false (sym e ∙ (over h o u).1))
+ended (goes {held = n} z h e k) o u = absurd (none-some n (sym (over h o u).1 ∙ e))
 
 -- ---- all calls
 
-one_more : (b : Bool) {room : ℕ} {s : Source} {chunk chunk' line : List ℕ} {r : Line} {texts : List (List ℕ)}
-    {rest : List ℕ} {e : End}
+one_more : (b : Bool) {room : ℕ} {s : Source} {chunk chunk' line : List ℕ} {r : Line} {held : ℕ}
+    {texts : List (List ℕ)} {rest : List ℕ} {e : End}
     → length line ≡ room
     → (h : HandedOut s chunk chunk' line r)
-    → r.some ≡ true
+    → r.held ≡ Some held
     → has_lf (all h) ≡ b → Calls room r.source chunk' texts rest e
     → texts ≡ map (take room) (lines_to e [] (unread r.source chunk' ++ rest))
-    → take r.held line ∷ texts ≡ map (take room) (lines_to e [] (all h ++ rest))
+    → take held line ∷ texts ≡ map (take room) (lines_to e [] (all h ++ rest))
 one_more true {r = r} {rest = rest} {e = e} z h o f k q =
     let j = behind (all h) rest f in
-    rw (lines_are e (all h ++ rest), j.has, j.before, j.after, h.text, z, q, h.rest)
+    let n = some_held (some h) h.filled (sym h.held ∙ o) in
+    rw (lines_are e (all h ++ rest), j.has, j.before, j.after, ← n.1, h.text, z, q, h.rest)
 one_more false {room} {r = r} {rest = rest} {e = e} z h o f k q =
-    let l = ended_line h.last r.held (sym (rw f at h.some) ∙ o) in
+    let n = some_held (some h) h.filled (sym h.held ∙ o) in
+    let l = ended_line h.last h.filled (rw f at n.0) in
     let d = ended k (h.end ∙ rw (f, l.0)) (h.rest ∙ nothing_after (all h) f) in
-    rw (d.0, d.1, d.2, append-nil, lines_are Ended (all h), f, h.text, z)
+    rw (d.0, d.1, d.2, append-nil, lines_are Ended (all h), f, ← n.1, h.text, z)
     (sym (last_some room (before_lf (all h)) (omega (arith, l.1, rw z at (held_is h)))))
 
 pub every_line_to : {room : ℕ} {s : Source} {chunk : List ℕ} {texts : List (List ℕ)} {came : List ℕ} {e : End}

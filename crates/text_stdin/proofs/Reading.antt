@@ -2,18 +2,20 @@
 use Prim.Native.Nat.{ℕ, zero, suc, ◌+◌, ◌≤◌}
 use native.Mathlib.Omega.{arith}
 use native.Mathlib.Numerals.{add-one}
-use mathlib.Core.Bool.{Bool, true, false, true≢false}
+use mathlib.Core.Bool.{Bool, true, false, not, true≢false}
 use mathlib.Core.List.{List, [], ◌∷◌, ◌++◌, append_assoc, append-nil}
 use mathlib.Core.Path.{◌≡◌, refl, sym, ap, ◌∙◌}
 use lib.ListN.{length, take}
 use lib.Seq.{slice, length-slice}
-use Rattle.text_stdin.specs.Reads.{is_open_at, Counted, Brought, Reads, none, bytes, answered_0, failed}
-use Rattle.text_stdin.specs.Handed.{before_lf, unread, counted, Took, HandedOut, MOST_READS, stands, is_line}
+use Rattle.std.specs.Prelude.{Option, is_some}
+use Rattle.text_stdin.specs.Reads.{Counted, Brought, Reads, none, bytes, answered_0, failed}
+use Rattle.text_stdin.specs.Handed.{before_lf, unread, counted, Took, HandedOut, MOST_READS, stands, is_line, held_if}
 use Rattle.text_stdin.specs.declared.Source.{Source}
 use Rattle.text_stdin.specs.declared.Part.{Part}
 use Rattle.text_stdin.specs.declared.reads.End.{End}
 use Rattle.text_stdin.specs.declared.reads.End.TheVariants.{Open, Ended, Failed, OutOfTurns}
 use Rattle.text_stdin.specs.declared.reads.Got.{Got}
+use Rattle.text_stdin.specs.contracts.reads.EndPartialEq.TheImpl as equality
 use Rattle.text_stdin.proofs.Joined.{joined}
 
 -- ---- reads
@@ -31,11 +33,12 @@ more_reads {from} {n} {came} {chunk} {r} p b = by_end r.count r.end b.inside b.c
     by_end count Failed i h = rw (h, append-nil) (failed p)
     by_end count OutOfTurns i h = absurd h
 
-open_only : (e : End) → is_open_at e ≡ true → e ≡ Open
+-- an input that is not other than open
+pub open_only : (e : End) → not ((equality.eq-value).it e Open) ≡ false → e ≡ Open
 open_only Open h = refl
-open_only Ended h = absurd (true≢false (sym h))
-open_only Failed h = absurd (true≢false (sym h))
-open_only OutOfTurns h = absurd (true≢false (sym h))
+open_only Ended h = absurd (true≢false h)
+open_only Failed h = absurd (true≢false h)
+open_only OutOfTurns h = absurd (true≢false h)
 
 -- some bytes came behind those that were unread, by so many reads
 pub record Reading (from : End) (bytes chunk line : List ℕ) (p : Part) (e : End) (count : ℕ) : Type 0 where
@@ -70,7 +73,7 @@ cut_once (suc n) (c ∷ x) y = ap (λ (l : List ℕ). c ∷ l) (cut_once n x y)
 pub reading_more : {from : End} {bytes chunk line chunk' line' : List ℕ} {p p' : Part} {e : End} {n : ℕ} {r : Got}
     → Reading from bytes chunk line p e n
     → p.ended ≡ false
-    → is_open_at e ≡ true
+    → e ≡ Open
     → Brought chunk' r
     → length line' ≡ length line
     → Took (slice 0 r.count chunk') p.held line chunk' line' p'
@@ -81,7 +84,7 @@ reading_more {from} {bytes} {line = line} {chunk' = chunk'} {line' = line'} {p =
     let j = joined a b' (sym g.took.ended ∙ f) in
     record {
       came = g.came ++ b';
-      reads = rw add-one (more_reads (rw (open_only e o) at g.reads) b);
+      reads = rw add-one (more_reads (rw o at g.reads) b);
       took = rw (← append_assoc) (record {
         text = t.text ∙ (rw (g.took.text, z, cut_once (length line) (before_lf a) (before_lf b'), j.before));
         rest = t.rest ∙ sym j.after;
@@ -92,30 +95,32 @@ reading_more {from} {bytes} {line = line} {chunk' = chunk'} {line' = line'} {p =
       });
     }
 
-pub handed : {from : Source} {chunk₀ chunk line : List ℕ} {p : Part} {e end : End} {n lines : ℕ} {some : Bool}
+some_held : (some : Bool) (n : ℕ) → some ≡ is_some (held_if some n)
+some_held true n = refl
+some_held false n = refl
+
+pub handed : {from : Source} {chunk₀ chunk line : List ℕ} {p : Part} {e end : End} {n lines : ℕ} {some : Bool} {held : Option ℕ}
     → Reading from.end (unread from chunk₀) chunk line p e n
     → (p.ended ≡ false → e ≡ Open → n ≡ MOST_READS)
     → some ≡ is_line p.ended e p.held
+    → held ≡ held_if some p.held
     → lines ≡ counted from.lines some
     → end ≡ stands p.ended e
     → HandedOut from chunk₀ chunk line
-    (record {
-      source = record { at = p.at; filled = p.filled; lines = lines; end = end };
-      held = p.held;
-      some = some;
-    })
-handed {p = p} {e = e} {n = k} g z s n o =
+    (record { source = record { at = p.at; filled = p.filled; lines = lines; end = end }; held = held })
+handed {from} {p = p} {e = e} {n = k} {some = some} g z s h n o =
     record {
       count = k;
       came = g.came;
       last = e;
+      filled = p.held;
       reads = g.reads;
       text = g.took.text;
       rest = g.took.rest;
       end = rw (← g.took.ended) o;
       turns = λ f o. z (g.took.ended ∙ f) o;
-      some = rw (← g.took.ended) s;
-      number = n;
+      held = rw (← g.took.ended, ← s) h;
+      number = n ∙ ap (counted from.lines) (some_held some p.held ∙ ap is_some (sym h));
       fits = g.took.fits;
       within = record { order = g.took.order; inside = g.took.inside };
     }

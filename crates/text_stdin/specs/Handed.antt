@@ -1,6 +1,6 @@
 -- A line of the input: the bytes up to the first LF, and what is left
 -- behind it. What is handed out of a chunk, and of what was read behind it.
-use Rattle.std.specs.Prelude.{ℕ, ◌+◌, ◌-◌, ◌^◌, ◌≤◌, Bool, true, false, ◌&&◌, ◌||◌, List, [], ◌∷◌, ◌++◌, ◌≡◌, eqb, ltb, length, take, if◌then◌else◌}
+use Rattle.std.specs.Prelude.{ℕ, ◌+◌, ◌-◌, ◌^◌, ◌≤◌, Bool, true, false, ◌&&◌, ◌||◌, List, [], ◌∷◌, ◌++◌, ◌≡◌, eqb, ltb, length, take, if◌then◌else◌, Option, Some, None, is_some}
 use Rattle.std.proofs.Math.Seq.{slice}
 use Rattle.text_hex.specs.Text.{LF, last_line}
 use Rattle.text_stdin.specs.declared.Source.{Source}
@@ -61,20 +61,25 @@ stands false OutOfTurns = OutOfTurns
 abbrev pub is_line : Bool → End → ℕ → Bool
 is_line ended e held = ended || (is_ended_at e && ltb 0 held)
 
+-- how many bytes the line has, where there is one
+abbrev pub held_if : Bool → ℕ → Option ℕ
+held_if some n = if some then Some n else None
+
 -- with the bytes that the reads brought behind the unread ones: the line has those up to LF, cut at its end, and those
 -- behind it are left. Without LF, the input has ended (a read answered 0), a read has failed, or all reads were made.
 pub record HandedOut (from : Source) (chunk₀ chunk line : List ℕ) (r : Line) : Type 0 where
   pub count : ℕ
   pub came : List ℕ
   pub last : End
+  pub filled : ℕ
   pub reads : Reads from.end count came last
-  pub text : take r.held line ≡ take (length line) (before_lf (unread from chunk₀ ++ came))
+  pub text : take filled line ≡ take (length line) (before_lf (unread from chunk₀ ++ came))
   pub rest : unread r.source chunk ≡ after_lf (unread from chunk₀ ++ came)
   pub end : r.source.end ≡ stands (has_lf (unread from chunk₀ ++ came)) last
   pub turns : has_lf (unread from chunk₀ ++ came) ≡ false → last ≡ Open → count ≡ MOST_READS
-  pub some : r.some ≡ is_line (has_lf (unread from chunk₀ ++ came)) last r.held
-  pub number : r.source.lines ≡ counted from.lines r.some
-  pub fits : r.held ≤ length line
+  pub held : r.held ≡ held_if (is_line (has_lf (unread from chunk₀ ++ came)) last filled) filled
+  pub number : r.source.lines ≡ counted from.lines (is_some r.held)
+  pub fits : filled ≤ length line
   pub within : Within r.source chunk
 
 -- the line that an input ends in without LF: a line where the input has ended, and none where the rest of it did not come

@@ -6,14 +6,14 @@ pub mod report; // what is said where reading or writing failed
 
 ghost use Rattle.std.specs.Prelude.{◌≡◌, ◌≤◌, length};
 ghost use Rattle.std.proofs.Math.Seq.{slice};
-ghost use Rattle.text_stdin.specs.Handed.{Within, counted, Took, HandedOut, stands, is_line};
+ghost use Rattle.text_stdin.specs.Handed.{Within, counted, Took, HandedOut, stands, is_line, held_if};
 ghost use Rattle.text_stdin.specs.declared.reads.End.TheVariants.{Open};
 
-use reads::{End, is_ended, is_open, read_some};
+use reads::{End, read_some};
 
 // What was read and not handed out yet stands in the chunk from `at` up to
 // `filled`. So many lines were handed out, and how the input stands.
-#[derive(Clone, Copy)]
+#[derive(Clone, Copy, PartialEq, Eq)]
 pub struct Source {
     pub at: usize,
     pub filled: usize,
@@ -21,17 +21,17 @@ pub struct Source {
     pub end: End,
 }
 
-// Whether there was a line, how many bytes of the buffer it fills,
-// and what is left. Its number is the source's count of lines.
-#[derive(Clone, Copy)]
+// What is left behind a line, and how many bytes of the buffer it fills. None where
+// there was no line. Its number is the source's count of lines.
+#[derive(Clone, Copy, PartialEq, Eq)]
 pub struct Line {
     pub source: Source,
-    pub held: usize,
-    pub some: bool,
+    pub held: Option<usize>,
 }
 
-// How far a chunk was read, how much of the buffer is filled, and whether the line has ended.
-#[derive(Clone, Copy)]
+// How far a chunk was read, how much of the buffer is filled, and whether the line has ended. That is
+// no Option of the others, which hold also where the line goes on.
+#[derive(Clone, Copy, PartialEq, Eq)]
 struct Part {
     at: usize,
     filled: usize,
@@ -103,18 +103,21 @@ fn end_after(ended: bool, end: End) -> End
 fn is_some(ended: bool, end: End, held: usize) -> bool
     ensures { result ≡ is_line ended end held }
 {
-    ended || is_ended(end) && held > 0
+    ended || end == End::Ended && held > 0
+}
+
+// The line of so many bytes, if it is one.
+fn held_if(some: bool, held: usize) -> Option<usize>
+    ensures { result ≡ held_if some held }
+{
+    some.then_some(held)
 }
 
 // The number of lines with this one.
 fn count_on(lines: u64, some: bool) -> u64
     ensures { result ≡ counted lines some }
 {
-    if some && lines < u64::MAX {
-        lines + 1
-    } else {
-        lines
-    }
+    lines.saturating_add(u64::from(some))
 }
 
 // The next line, without its LF. A last line may lack it; behind an LF that is the last byte there is
@@ -127,7 +130,7 @@ pub fn next_line(rt: HostRuntime, from: Source, chunk: &mut [u8], line: &mut [u8
     let mut end = from.end;
     // A proved loop ends, so it counts the reads up to a number that no run reaches.
     for _ in 0..u64::MAX {
-        if part.ended || !is_open(end) {
+        if part.ended || end != End::Open {
             break;
         }
         let got = read_some(rt, chunk);
@@ -143,7 +146,6 @@ pub fn next_line(rt: HostRuntime, from: Source, chunk: &mut [u8], line: &mut [u8
     };
     Line {
         source,
-        held: part.held,
-        some,
+        held: held_if(some, part.held),
     }
 }

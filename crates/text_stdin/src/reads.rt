@@ -1,6 +1,6 @@
 // Reads of standard input: what each brought, and how it leaves the input.
 ghost use Rattle.std.specs.Prelude.{◌≡◌, length};
-ghost use Rattle.text_stdin.specs.Reads.{is_open_at, is_ended_at, got_by, Brought};
+ghost use Rattle.text_stdin.specs.Reads.{is_ended_at, got_by, Brought};
 ghost use Rattle.text_stdin.specs.Inner.Counted.{bytes_by};
 
 use std::io::Read;
@@ -16,24 +16,17 @@ pub enum End {
 }
 
 // So many bytes stand at the start of the chunk, and how the input stands behind them.
-#[derive(Clone, Copy)]
+#[derive(Clone, Copy, PartialEq, Eq)]
 pub struct Got {
     pub count: usize,
     pub end: End,
-}
-
-// Whether bytes may follow.
-pub fn is_open(end: End) -> bool
-    ensures { result ≡ is_open_at end }
-{
-    matches!(end, End::Open)
 }
 
 // Whether the input has ended.
 pub fn is_ended(end: End) -> bool
     ensures { result ≡ is_ended_at end }
 {
-    matches!(end, End::Ended)
+    end == End::Ended
 }
 
 // How many bytes of the chunk an answer gives: none where
