@@ -11,7 +11,7 @@ use replay_session::Lists;
 use replay_state::State;
 use replay_state::ends::start;
 use std::io::Print;
-use text_stdin::reads::{End, is_ended, read_some};
+use text_stdin::reads::{End, read_some};
 
 // The bytes of the chunk that were read and are not yet fed, and how the input stands behind them.
 #[derive(Clone, Copy)]
@@ -142,7 +142,7 @@ pub fn at_end(end: End, s: State, text: &[u8], lists: &mut Lists, work: &mut Wor
     ensures same_space { SameSpace work.old work.new }
     ensures printed { AtEnd end (reader_of s text.now lists.old work.old) work.new.out.now result }
 {
-    if is_ended(end) {
+    if end == End::Ended {
         return replay_feed::finish(s, text, lists, work);
     }
     0

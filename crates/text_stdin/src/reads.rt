@@ -1,6 +1,6 @@
 // Reads of standard input: what each brought, and how it leaves the input.
 ghost use Rattle.std.specs.Prelude.{◌≡◌, length};
-ghost use Rattle.text_stdin.specs.Reads.{is_ended_at, got_by, Brought};
+ghost use Rattle.text_stdin.specs.Reads.{got_by, Brought};
 ghost use Rattle.text_stdin.specs.Inner.Counted.{bytes_by};
 
 use std::io::Read;
@@ -20,13 +20,6 @@ pub enum End {
 pub struct Got {
     pub count: usize,
     pub end: End,
-}
-
-// Whether the input has ended.
-pub fn is_ended(end: End) -> bool
-    ensures { result ≡ is_ended_at end }
-{
-    end == End::Ended
 }
 
 // How many bytes of the chunk an answer gives: none where
