@@ -126,21 +126,21 @@ module _ {s : Source} {chunk chunk' line : List ℕ} {r : Line} (h : HandedOut s
   abbrev all : List ℕ
   all = unread s chunk ++ h.came
 
-  held_is : h.filled ≡ length (take (length line) (before_lf all))
-  held_is = sym (length-take-le h.filled line h.fits) ∙ ap length h.text
+  held_is : r.filled ≡ length (take (length line) (before_lf all))
+  held_is = sym (length-take-le r.filled line h.fits) ∙ ap length h.text
 
   -- a line that is handed out stands in the buffer
   pub held_fits : {n : ℕ} → r.held ≡ Some n → n ≤ length line
-  held_fits e = omega (arith, h.fits, (some_held (is_line (has_lf all) h.last h.filled) h.filled (sym h.held ∙ e)).1)
+  held_fits e = omega (arith, h.fits, (some_held (is_line (has_lf all) h.last r.filled) r.filled (sym h.held ∙ e)).1)
 
   abbrev some : Bool
-  some = is_line (has_lf all) h.last h.filled
+  some = is_line (has_lf all) h.last r.filled
 
   no_line : 0 < length line → r.held ≡ None → (has_lf all ≡ false) × (last_by r.source.end (before_lf all) ≡ [])
   no_line l e =
-      let b = either (has_lf all) (is_ended_at h.last && ltb 0 h.filled) (no_held some h.filled (sym h.held ∙ e)) in
-      let t : h.filled ≤ 0 → before_lf all ≡ [] = λ z. no_text (length line) (before_lf all) l (omega (arith, held_is)) in
-      (b.0, rw (h.end, b.0) (none_last h.last h.filled (before_lf all) t b.1))
+      let b = either (has_lf all) (is_ended_at h.last && ltb 0 r.filled) (no_held some r.filled (sym h.held ∙ e)) in
+      let t : r.filled ≤ 0 → before_lf all ≡ [] = λ z. no_text (length line) (before_lf all) l (omega (arith, held_is)) in
+      (b.0, rw (h.end, b.0) (none_last h.last r.filled (before_lf all) t b.1))
 
   -- behind the end of the input there is no line
   over : s.end ≡ Ended → unread s chunk ≡ [] → (all ≡ []) × (r.held ≡ None) × (r.source.end ≡ Ended)
@@ -148,7 +148,7 @@ module _ {s : Source} {chunk chunk' line : List ℕ} {r : Line} (h : HandedOut s
   over e u =
       let d = shut e h.reads in
       let a : all ≡ [] = rw (u, d.0) in
-      let z : h.filled ≡ 0 = held_is ∙ (rw (a, take-nil (length line))) in
+      let z : r.filled ≡ 0 = held_is ∙ (rw (a, take-nil (length line))) in
       (a, h.held ∙ (rw (a, d.1, z)), h.end ∙ (rw (a, d.1)))
 
 ended : {room : ℕ} {s : Source} {chunk : List ℕ} {texts : List (List ℕ)} {came : List ℕ} {e : End}
@@ -171,11 +171,11 @@ one_more : (b : Bool) {room : ℕ} {s : Source} {chunk chunk' line : List ℕ} {
     → take held line ∷ texts ≡ map (take room) (lines_to e [] (all h ++ rest))
 one_more true {r = r} {rest = rest} {e = e} z h o f k q =
     let j = behind (all h) rest f in
-    let n = some_held (some h) h.filled (sym h.held ∙ o) in
+    let n = some_held (some h) r.filled (sym h.held ∙ o) in
     rw (lines_are e (all h ++ rest), j.has, j.before, j.after, ← n.1, h.text, z, q, h.rest)
 one_more false {room} {r = r} {rest = rest} {e = e} z h o f k q =
-    let n = some_held (some h) h.filled (sym h.held ∙ o) in
-    let l = ended_line h.last h.filled (rw f at n.0) in
+    let n = some_held (some h) r.filled (sym h.held ∙ o) in
+    let l = ended_line h.last r.filled (rw f at n.0) in
     let d = ended k (h.end ∙ rw (f, l.0)) (h.rest ∙ nothing_after (all h) f) in
     rw (d.0, d.1, d.2, append-nil, lines_are Ended (all h), f, ← n.1, h.text, z)
     (sym (last_some room (before_lf (all h)) (omega (arith, l.1, rw z at (held_is h)))))

@@ -107,13 +107,12 @@ pub handed : {from : Source} {chunk₀ chunk line : List ℕ} {p : Part} {e end 
     → lines ≡ counted from.lines some
     → end ≡ stands p.ended e
     → HandedOut from chunk₀ chunk line
-    (record { source = record { at = p.at; filled = p.filled; lines = lines; end = end }; held = held })
+    (record { source = record { at = p.at; filled = p.filled; lines = lines; end = end }; filled = p.held; held = held })
 handed {from} {p = p} {e = e} {n = k} {some = some} g z s h n o =
     record {
       count = k;
       came = g.came;
       last = e;
-      filled = p.held;
       reads = g.reads;
       text = g.took.text;
       rest = g.took.rest;

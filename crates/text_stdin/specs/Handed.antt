@@ -71,15 +71,14 @@ pub record HandedOut (from : Source) (chunk₀ chunk line : List ℕ) (r : Line)
   pub count : ℕ
   pub came : List ℕ
   pub last : End
-  pub filled : ℕ
   pub reads : Reads from.end count came last
-  pub text : take filled line ≡ take (length line) (before_lf (unread from chunk₀ ++ came))
+  pub text : take r.filled line ≡ take (length line) (before_lf (unread from chunk₀ ++ came))
   pub rest : unread r.source chunk ≡ after_lf (unread from chunk₀ ++ came)
   pub end : r.source.end ≡ stands (has_lf (unread from chunk₀ ++ came)) last
   pub turns : has_lf (unread from chunk₀ ++ came) ≡ false → last ≡ Open → count ≡ MOST_READS
-  pub held : r.held ≡ held_if (is_line (has_lf (unread from chunk₀ ++ came)) last filled) filled
+  pub held : r.held ≡ held_if (is_line (has_lf (unread from chunk₀ ++ came)) last r.filled) r.filled
   pub number : r.source.lines ≡ counted from.lines (is_some r.held)
-  pub fits : filled ≤ length line
+  pub fits : r.filled ≤ length line
   pub within : Within r.source chunk
 
 -- the line that an input ends in without LF: a line where the input has ended, and none where the rest of it did not come

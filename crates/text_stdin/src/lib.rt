@@ -21,11 +21,13 @@ pub struct Source {
     pub end: End,
 }
 
-// What is left behind a line, and how many bytes of the buffer it fills. None where
-// there was no line. Its number is the source's count of lines.
+// What is left behind a line, how many bytes of the buffer are filled, and the same as the length
+// of the line, if there was one: `filled` also counts what came of a line whose rest did not come.
+// A line's number is the source's count of lines.
 #[derive(Clone, Copy, PartialEq, Eq)]
 pub struct Line {
     pub source: Source,
+    pub filled: usize,
     pub held: Option<usize>,
 }
 
@@ -146,6 +148,7 @@ pub fn next_line(rt: HostRuntime, from: Source, chunk: &mut [u8], line: &mut [u8
     };
     Line {
         source,
+        filled: part.held,
         held: held_if(some, part.held),
     }
 }
