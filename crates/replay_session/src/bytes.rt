@@ -20,6 +20,7 @@ pub fn enter_pairs(
     requires small { Small call }
     requires few { length ds.now ≤ longest_kept }
     ensures same { SameLists lists.old lists.new }
+    ensures readings { lists.new.readings.now ≡ lists.old.readings.now }
     ensures entered { PairsAs l ds.now call s (arrays_of lists.old) (arrays_of lists.new) at result }
 {
     if is_pairs(ds) {

@@ -36,12 +36,16 @@ arrays ks ls bs rs = record { kinds = ks; lengths = ls; bytes = bs; readings = r
 abbrev pub arrays_of : Lists → Arrays
 arrays_of l = arrays l.kinds.now l.lengths.now l.bytes.now l.readings.now
 
--- they are the same slices still
+-- they are the same slices still, of the same lengths
 pub record SameLists (before after : Lists) : Type 0 where
   pub kinds : after.kinds.ghost_name ≡ before.kinds.ghost_name
   pub lengths : after.lengths.ghost_name ≡ before.lengths.ghost_name
   pub bytes : after.bytes.ghost_name ≡ before.bytes.ghost_name
   pub readings : after.readings.ghost_name ≡ before.readings.ghost_name
+  pub kinds_length : length after.kinds.now ≡ length before.kinds.now
+  pub lengths_length : length after.lengths.now ≡ length before.lengths.now
+  pub bytes_length : length after.bytes.now ≡ length before.bytes.now
+  pub readings_length : length after.readings.now ≡ length before.readings.now
 
 -- with an operation's kind and length stored, where the operations are within the limits
 abbrev pub stored : Option Filled → Arrays → ℕ → ℕ → Arrays
