@@ -1,5 +1,5 @@
-// The text of a frame, with what its word put on the bus. Each function
-// puts its text at `at` of a lent buffer and returns where the text ends.
+// The text of a frame, with what its word put on the bus. Each function puts its text
+// behind what stands in a text already; `tell` makes the text of a lent buffer.
 ghost use Rattle.std.specs.Prelude.{◌≡◌, ◌+◌, ◌-◌, ◌<◌, ◌≤◌, length, replicate};
 ghost use Rattle.text_hex.specs.Added.{Room, Added};
 ghost use Rattle.text_hex.specs.Appended.{Appended};
@@ -113,8 +113,8 @@ fn word_line(transfer: Transfer, w: u32, out: &mut [u8]) -> usize
     text.at
 }
 
-#[tactic(auto, using(text_hex::proofs::Appends::nothing, text_hex::proofs::Appends::within), unfolding(crate::specs::Piece::told_of))]
 // A line of an open transfer. Where the buffer has no room its text is empty, so 0 is where it ends.
+#[tactic(auto, using(text_hex::proofs::Appends::nothing, text_hex::proofs::Appends::within), unfolding(crate::specs::Piece::told_of))]
 fn explain_after(transfer: Transfer, line: &[u8], out: &mut [u8]) -> usize
     ensures { Appended out.old 0
         (told_of transfer line.now (length out.old))

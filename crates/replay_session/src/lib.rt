@@ -120,7 +120,7 @@ impl Wants {
     }
 }
 
-// With no call call nothing is filled.
+// With no call open nothing is filled.
 pub fn counts_of(call: Option<Open>) -> Counts
     ensures { result ≡ counts_of call }
 {
