@@ -3,23 +3,26 @@
 #![tactic(auto)]
 
 ghost use Rattle.std.specs.Prelude.{◌≡◌};
+ghost use Rattle.crc8.specs.Crc8.{crc8_from};
+ghost use Rattle.master.specs.Inner.Message.{opened};
 ghost use Rattle.master.specs.Inner.Running.{with_byte};
 ghost use Rattle.transfer_code.specs.Inner.Coding.{number};
-ghost use Rattle.words_code.specs.Inner.Code.{before, fresh_sum, sum_in, word_by, number_by};
+ghost use Rattle.words_code.specs.Inner.Code.{fresh_sum, sum_in, word_by, number_by};
 ghost use Rattle.words_code.specs.Inner.Code.{fed_by};
 
 use regs::DATA_CMD;
 use regs::fields::{byte_of, has_stop, is_read, word_of};
 use transfer_code::code::Direction;
 
-// The direction of the last data byte by its number.
-fn before(last: u8) -> Option<Direction>
-    ensures { result ≡ before last }
+// The register before the bytes of an operation, with the kind of the operation and of the one before by number:
+// the address byte is taken in first where they differ. Any number is a kind, as it is to a caller in C.
+pub fn opening(crc: u8, address: u16, last: u8, kind: u8) -> u8
+    ensures { result ≡ crc8_from crc (opened address last kind) }
 {
-    match last {
-        0 => Some(Direction::Read),
-        1 => Some(Direction::Write),
-        _ => None,
+    if last == kind {
+        crc
+    } else {
+        Direction::from(kind).opening(crc, address, None)
     }
 }
 
@@ -62,8 +65,8 @@ fn take_byte(code: &mut [u8; 2], address: u16, direction: Direction, b: u8)
     ensures { sum_in code.new ≡ with_byte address (sum_in code.old) (number direction) b }
 {
     let [crc, last] = *code;
-    let opened = direction.opening(crc, address, before(last));
-    *code = [crc8::next(opened, b), u8::from(direction)];
+    let kind = u8::from(direction);
+    *code = [crc8::next(opening(crc, address, last, kind), b), kind];
 }
 
 // Takes an access that was made, as it was told, into the code: a byte received (kind 1), or the byte of a

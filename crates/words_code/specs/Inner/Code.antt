@@ -1,15 +1,8 @@
 -- The running packet error code as two bytes, what it does to a word and to the number of an answer, and what an access
 -- makes of it.
-use Rattle.std.specs.Prelude.{ℕ, not, ◌&&◌, List, eqb, get_or, if◌then◌else◌, Option, None, Some}
+use Rattle.std.specs.Prelude.{ℕ, not, ◌&&◌, List, eqb, get_or, if◌then◌else◌}
 use Rattle.regs.specs.declared.access.Entry.TheVariants.{Read, Write}
-use Rattle.transfer_code.specs.declared.code.Direction.{Direction}
-use Rattle.transfer_code.specs.declared.code.Direction.TheVariants.{Read as Reading, Write as Writing}
-use Rattle.master.specs.Operations.{READ, WRITE}
 use Rattle.master.specs.Inner.Running.{Sum, fresh, feed, running}
-
--- the direction that a number of the second byte names
-abbrev pub before : ℕ → Option Direction
-before last = if eqb last READ then Some Reading else (if eqb last WRITE then Some Writing else None)
 
 abbrev pub sum : ℕ → ℕ → Sum
 sum crc last = record { crc = crc; last = last }
