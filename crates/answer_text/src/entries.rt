@@ -66,7 +66,8 @@ pub fn push_log(text: &mut Text, log: &[u32], n: usize)
           E0E1E2E3E4E5E6E7E8E9EAEBECEDEEEF\
           F0F1F2F3F4F5F6F7F8F9FAFBFCFDFEFF",
     };
-    // In a text of its own the place stays in a register; in the one that is lent it is stored behind each byte.
+    // In a text of its own the place stays in a register; in the one that is lent it is
+    // stored behind each byte.
     let mut lines = Text::new(&mut *text.out, text.at);
     push_entries(&mut lines, &pairs, log, n);
     text.at = lines.at;

@@ -24,8 +24,8 @@ fn row_of(condition: Condition) -> usize
     condition as usize
 }
 
-// START or RESTART, and the address with its direction. That stays the bool which `is_read` and `letter` know:
-// a Direction would be made of it, and turned back for the letter.
+// START or RESTART, and the address with its direction. That stays the bool which `is_read` and
+// `letter` know: a Direction would be made of it, and turned back for the letter.
 fn push_addressed(text: &mut Text, condition: Condition, address: u32, read: bool)
     requires { Room 13 text.old }
     ensures { Added text.old (addressed_text condition address read) 13 text.new }

@@ -10,7 +10,8 @@ pub enum Kind {
     Transaction,
 }
 
-// How the call waits for its bytes: bit 2. The transfer's own mode is the machine's, which no call of the replay sees.
+// How the call waits for its bytes: bit 2. The transfer's own mode is the machine's, which no
+// call of the replay sees.
 #[derive(Clone, Copy)]
 pub enum Mode {
     Blocking,

@@ -20,7 +20,8 @@ pub enum Call {
 }
 
 // The operations of a call, as the master's calls take them (two slices, as in C): kinds and lengths
-// beside the bytes to write and the number of bytes to read. The bytes of a slave's response are an operation too.
+// beside the bytes to write and the number of bytes to read. The bytes of a slave's response are
+// an operation too.
 #[derive(Clone, Copy)]
 pub struct Operations<'a> {
     pub kinds: &'a [u8],

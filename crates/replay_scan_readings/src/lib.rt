@@ -103,7 +103,8 @@ fn run_by(
     let mut used = i;
     let mut count = first;
     let mut line = number;
-    // Place, count and line move on together until a line is no reading: a range would count one of the three.
+    // Place, count and line move on together until a line is no reading: a range would count one
+    // of the three.
     while count < replay_calls::MOST_READINGS {
         match reading_at(values, chunk, used) {
             Some(w) => {

@@ -2,7 +2,8 @@
 ghost use Rattle.std.specs.Prelude.{◌≡◌, ◌≤◌};
 ghost use Rattle.replay_session.specs.Inner.Enter.{Small, longest_kept, over_of, added_to, counts_of};
 ghost use Rattle.replay_session.specs.Inner.Enter.{call_entered, read_entered, taken_by};
-ghost use Rattle.replay_session.specs.Inner.Enter.{bytes_entered, reading_entered, SameLists, arrays_of, stored, with_reading};
+ghost use Rattle.replay_session.specs.Inner.Enter.{bytes_entered, reading_entered, SameLists, arrays_of};
+ghost use Rattle.replay_session.specs.Inner.Enter.{stored, with_reading};
 
 use super::{Counts, Entered, Lists, Malformed, Open, Wants, counts_of, taken_by};
 use replay_calls::Call;

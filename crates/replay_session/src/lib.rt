@@ -56,7 +56,8 @@ pub struct Open {
     pub counts: Counts,
 }
 
-// What a frame leads to: the open call, if one is, and the slave's state after it, and where what was printed ends.
+// What a frame leads to: the open call, if one is, and the slave's state after it, and where what
+// was printed ends.
 #[derive(Clone, Copy)]
 pub struct Entered {
     pub call: Option<Open>,

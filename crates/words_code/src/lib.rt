@@ -14,8 +14,9 @@ use regs::DATA_CMD;
 use regs::fields::{byte_of, has_stop, is_read, word_of};
 use transfer_code::code::Direction;
 
-// The register before the bytes of an operation, with the kind of the operation and of the one before by number:
-// the address byte is taken in first where they differ. Any number is a kind, as it is to a caller in C.
+// The register before the bytes of an operation, with the kind of the operation and of the one
+// before by number: the address byte is taken in first where they differ. Any number is a kind, as
+// it is to a caller in C.
 pub fn opening(crc: u8, address: u16, last: u8, kind: u8) -> u8
     ensures { result ≡ crc8_from crc (opened address last kind) }
 {
