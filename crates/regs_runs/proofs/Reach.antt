@@ -1,12 +1,14 @@
 -- A run is reached in parts: no step, one part after the other, one access, and the access that stops it.
 use Rattle.std.specs.Prelude.{Result, Ok, Err}
-use Prim.Native.Nat.{ℕ, ◌+◌, ◌/◌, ◌-◌, ◌<◌, ◌≤◌, ◌^◌}
+use Prim.Native.Nat.{ℕ, ◌+◌, ◌/◌, ◌-◌, ◌<◌, ◌^◌}
 use native.Mathlib.Omega.{arith}
 use mathlib.Core.List.{List}
 use mathlib.Core.Path.{◌≡◌, refl, sym, ap, ◌∙◌}
 use lib.ListN.{length, length-set, get_or}
-use borrow.Author.Tests.{lt-ltb}
-use Rattle.regs.specs.Inner.Machine.{performed, log_after, entered, Final, final, ran}
+use mathlib.Core.Bool.{false}
+use lib.Dec.{ltb}
+use borrow.Author.Tests.{lt-ltb, le-ltb, ltb-true, ltb-false}
+use Rattle.regs.specs.Inner.Machine.{at_full, performed, log_after, entered, Final, final, ran}
 use Rattle.regs.specs.Steps.{Machine, stored_in}
 use Rattle.regs.specs.Inner.Recording.{Keeps, Performs, performed_in, read_of, used_after, entries_after}
 use Rattle.regs.specs.declared.access.Recording.{Recording}
@@ -15,13 +17,30 @@ use Rattle.regs.specs.declared.access.Next.{Next}
 use Rattle.regs.specs.declared.access.Next.TheVariants.{Read, Write, Mark}
 use Rattle.regs.specs.Store.{Store}
 use Rattle.regs.specs.Store.{Performed}
-use Rattle.regs.proofs.Unroll.{at_stop, at_access, has_room}
+use Rattle.regs.proofs.Tests.{by_test}
+use Rattle.regs.proofs.Unroll.{at_stop, at_access}
 use Rattle.regs.proofs.Refine.{length_stored}
 use Rattle.regs_runs.specs.Inner.Reaches.{Reaches}
 
 module _ (M : Machine) (readings : List ℕ) where
-  pub stays : {s : M.S} {e u : ℕ} {l b : List ℕ} → e ≤ length l / 2 → length l < 2 ^ 64 → Reaches M readings s e u l b s e u l b
-  stays h f = record { same = refl; up = omega arith; room = h; long = refl; wide = refl; fits = f }
+  pub stays : {s : M.S} {e u : ℕ} {l b : List ℕ} → length l < 2 ^ 64 → Reaches M readings s e u l b s e u l b
+  stays f = record { same = refl; up = omega arith; room = λ h. h; long = refl; wide = refl; fits = f }
+
+-- an access is done only where the log has room
+room_for : (rs : List ℕ) (u k room : ℕ) (n : Next) {v w : ℕ} → performed rs u k room n ≡ Ok (v, w) → k < room
+room_for rs u k room n {v} {w} q = by_test (ltb k room) (ltb-true k room) (λ no.
+    let z : ◌≡◌ {A = Performed} (Err (at_full n)) (Ok (v, w)) = rw no at q in
+    let y : ◌≡◌ {A = ℕ} 0 1 = cc in absurd (omega arith))
+
+-- the access that stops a run stops it too where there are more entries than room: then none is done
+stops : (M : Machine) (rs : List ℕ) (s : M.S) (k u : ℕ) (l b : List ℕ) {r : Reply} → performed rs u k (length l / 2) (M.next s) ≡ Err r
+    → ran M rs (length l / 2 - k) s k u l b ≡ final r k u l b (M.state s)
+stops M rs s k u l b {r} q = by_test (ltb k (length l / 2))
+    (λ yes. at_stop M rs (length l / 2 - k) (length l / 2) s k u l b r (omega (arith, ltb-true k (length l / 2) yes)) q)
+    (λ no.
+    let none : length l / 2 - k ≡ 0 = omega (arith, ltb-false k (length l / 2) no) in
+    let full : ltb k k ≡ false = le-ltb k k (omega arith) in
+    rw none (at_stop M rs 0 k s k u l b r (omega arith) (rw full (rw no at q))))
 
 module _ {M : Machine} {readings : List ℕ} {s₀ : M.S} {e₀ u₀ : ℕ} {l₀ b₀ : List ℕ} {s : M.S} {e u : ℕ}
     {l b : List ℕ} (g : Reaches M readings s₀ e₀ u₀ l₀ b₀ s e u l b) where
@@ -35,14 +54,11 @@ module _ {M : Machine} {readings : List ℕ} {s₀ : M.S} {e₀ u₀ : ℕ} {l�
       record {
         same = (rw half at k.same) ∙ g.same;
         up = omega (arith, g.up, k.up);
-        room = omega (arith, k.room, half);
+        room = λ h. rw half at (k.room (rw half (g.room h)));
         long = k.long ∙ g.long;
         wide = k.wide ∙ g.wide;
         fits = g.fits;
       }
-
-  sum : e + (length l / 2 - e) ≡ length l / 2
-  sum = omega (arith, g.room, half)
 
   base : ran M readings (length l / 2 - e) s e u l b ≡ ran M readings (length l₀ / 2 - e₀) s₀ e₀ u₀ l₀ b₀
   base = rw half g.same
@@ -50,15 +66,16 @@ module _ {M : Machine} {readings : List ℕ} {s₀ : M.S} {e₀ u₀ : ℕ} {l�
   -- an access that is done
   module _ {v w : ℕ} (q : performed readings u e (length l / 2) (M.next s) ≡ Ok (v, w)) where
     more : e < length l₀ / 2
-    more = omega (arith, half, has_room readings (length l / 2 - e) (length l / 2) e u M s v w sum q)
+    more = rw half at (room_for readings u e (length l / 2) (M.next s) q)
 
     did : Reaches M readings s₀ e₀ u₀ l₀ b₀ (M.advance s v) (e + 1) w (log_after (Ok (v, w)) l e (M.next s)) (stored_in b (M.store s v))
     did =
         let less : length l / 2 - e - 1 ≡ length l₀ / 2 - (e + 1) = omega (arith, half) in
+        let sum : e + (length l / 2 - e) ≡ length l / 2 = omega (arith, room_for readings u e (length l / 2) (M.next s) q) in
         record {
           same = rw (← less) (sym (at_access M readings (length l / 2 - e) (length l / 2) s e u l b v w sum q) ∙ base);
           up = omega (arith, g.up);
-          room = omega (arith, more);
+          room = λ h. omega (arith, more);
           long = simp length-set g.long;
           wide = length_stored b (M.store s v) ∙ g.wide;
           fits = g.fits;
@@ -105,7 +122,7 @@ module _ {M : Machine} {readings : List ℕ} {s₀ : M.S} {e₀ u₀ : ℕ} {l�
     pub halts : {r : Reply} → d ≡ Err r → final r e u l' b (M.state s) ≡ ran M readings (length l / 2 - e) s e u l b
     halts {r} q =
         let el : l' ≡ l = done.1 ∙ ap (λ (x : Performed). log_after x l e n) q in
-        rw el (sym (at_stop M readings (length l / 2 - e) (length l / 2) s e u l b r sum (there ∙ q)))
+        rw el (sym (stops M readings s e u l b (there ∙ q)))
 
     pub goes : {v w : ℕ} {k : Store} {b' : List ℕ} {s' : M.S} → d ≡ Ok (v, w) → k ≡ M.store s v → b' ≡ stored_in b k → s' ≡ M.advance s v
         → Reaches M readings s₀ e₀ u₀ l₀ b₀ s' (e + 1) w l' b'

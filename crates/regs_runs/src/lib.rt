@@ -8,19 +8,21 @@ ghost use Rattle.regs_runs.specs.Inner.Puts.{Reads};
 
 use regs::access::Recording;
 
+// Whether so many more fit behind those that are used.
+fn fits(used: usize, more: usize, length: usize) -> bool
+    ensures { result ≡ true → used + more ≤ length }
+{
+    length.checked_sub(used).is_some_and(|left| more <= left)
+}
+
 // Whether a recording has so many more readings, and room for so many more entries.
 pub fn has(recording: &Recording, readings: usize, entries: usize) -> bool
-    requires { recording.now.entries ≤ room_of recording.now }
     ensures { result ≡ true
         → (recording.now.used + readings ≤ length recording.now.readings.now)
         × (recording.now.entries + entries ≤ room_of recording.now) }
 {
-    let has_readings = recording
-        .readings
-        .len()
-        .checked_sub(recording.used)
-        .is_some_and(|left| readings <= left);
-    has_readings && entries <= recording.log.len() / 2 - recording.entries
+    fits(recording.used, readings, recording.readings.len())
+        && fits(recording.entries, entries, recording.log.len() / 2)
 }
 
 // Reads a register, where a reading is left and the log has room.

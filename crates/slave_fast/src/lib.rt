@@ -1,8 +1,7 @@
 // The burst that begins at the slave's point, if one does.
 #![tactic(auto)]
 
-ghost use Rattle.std.specs.Prelude.{true, List, ◌≡◌, ℕ, ◌≤◌};
-ghost use Rattle.regs.specs.Inner.Recording.{room_of};
+ghost use Rattle.std.specs.Prelude.{List, ◌≡◌, ℕ};
 ghost use Rattle.slave_fast.specs.Inner.GoesAhead.{GoesAhead};
 ghost use Rattle.slave_respond.specs.Inner.Machine.{response};
 ghost use Rattle.slave_fast_bytes.specs.Inner.Bursts.{ForAny};
@@ -22,7 +21,6 @@ fn listen_from(
 ) -> ListenPoint
     requires at { s.point ≡ Point.Listening point }
     requires none { s.state.pending_byte ≡ None }
-    requires room { recording.old.entries ≤ room_of recording.old }
     ensures { ForAny
         (λ (bytes : List ℕ). GoesAhead bytes s recording.old buffer.old (Point.Listening result) recording.new
         buffer.new) }
@@ -48,7 +46,6 @@ fn listen_from(
 // In a response, at a poll: from the byte that is next to the one that is next then.
 fn respond_from(s: Slave, job: Job, at: u16, bytes: &[u8], recording: &mut Recording) -> u16
     requires at { s.point ≡ Point.Responding (response job (RespondPoint.RawIntrStat at)) }
-    requires room { recording.old.entries ≤ room_of recording.old }
     ensures { ForAny
         (λ (buffer : List ℕ). GoesAhead bytes.now s recording.old buffer
         (Point.Responding (response job (RespondPoint.RawIntrStat result))) recording.new buffer) }
@@ -65,7 +62,6 @@ fn respond_from(s: Slave, job: Job, at: u16, bytes: &[u8], recording: &mut Recor
 
 // The point that the slave comes to.
 pub fn burst_from(s: Slave, bytes: &[u8], recording: &mut Recording, buffer: &mut [u8]) -> Point
-    requires { recording.old.entries ≤ room_of recording.old }
     ensures { GoesAhead bytes.now s recording.old buffer.old result recording.new buffer.new }
 {
     match s.point {

@@ -67,11 +67,11 @@ byte_stored {m} {before} put left room fits more straight eb =
     let both = both_of (rfne (get_or before.readings.now before.used 0)) (not next) straight in
     record {
       keeps = record { readings = put.keeps.readings; loan = put.keeps.loan; size = put.keeps.size };
-      room = rw (put.entries, put.keeps.size) room;
+      room = λ h. rw (put.entries, put.keeps.size) room;
       up = rw put.entries (omega arith);
       places = refl;
       reaches = λ bytes me none. rw (put.entries, put.used, put.log, eb)
           (byte_drained bytes me m.places m.stat m.index
-          (stays (machine bytes) before.readings.now (omega (arith, room)) fits) room left
+          (stays (machine bytes) before.readings.now fits) room left
           both.0 (not-true next both.1) (omega (arith, more)));
     }

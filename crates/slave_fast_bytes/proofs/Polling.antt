@@ -90,7 +90,7 @@ pub poll_made : {m : Message} {before mid : Recording}
     (record mid { used = mid.used + 3 }) b)
 poll_made {m} {before} put left room fits more straight = λ b. record {
   keeps = record { readings = put.keeps.readings; loan = put.keeps.loan; size = put.keeps.size };
-  room = rw (put.entries, put.keeps.size) room;
+  room = λ h. rw (put.entries, put.keeps.size) room;
   up = rw put.entries (omega arith);
   places = refl;
   reaches = λ bytes me none.
@@ -108,7 +108,7 @@ poll_made {m} {before} put left room fits more straight = λ b. record {
       let q₅ : entries + 4 + 1 ≡ entries + 5 = omega arith in
       let q₆ : entries + 4 + 2 ≡ entries + 6 = omega arith in
       let g₀ = stays (machine bytes) before.readings.now {s = slave me m.places (Listening (Status stat m.index))}
-      {e = entries} {u = used} {l = before.log.now} {b = b} (omega (arith, room)) fits in
+      {e = entries} {u = used} {l = before.log.now} {b = b} fits in
       let g₄ = waits bytes me none m.places stat m.index g₀ (omega (arith, room)) (omega (arith, left))
       (not-true (rfne status) s₁.0) (not-true (rd_req stat) s₂.0) (not-true (stop_det stat) s₃.0)
       more in
@@ -119,15 +119,14 @@ poll_made {m} {before} put left room fits more straight = λ b. record {
 
 -- nothing was done, and one part after the other
 pub no_drain : {m : Message} {r : Recording} {b : List ℕ}
-    → r.entries ≤ length r.log.now / 2
     → length r.log.now < 2 ^ 64
     → Drains m r b m r b
-no_drain {r = r} room fits = record {
+no_drain {r = r} fits = record {
   keeps = keeps_all;
-  room = room;
+  room = λ h. h;
   up = omega arith;
   places = refl;
-  reaches = λ bytes me none. stays (machine bytes) r.readings.now room fits;
+  reaches = λ bytes me none. stays (machine bytes) r.readings.now fits;
 }
 
 pub drains_on : {m m₁ m₂ : Message} {r r₁ r₂ : Recording} {b b₁ b₂ : List ℕ}
@@ -136,7 +135,7 @@ pub drains_on : {m m₁ m₂ : Message} {r r₁ r₂ : Recording} {b b₁ b₂ :
     → Drains m r b m₂ r₂ b₂
 drains_on f g = record {
   keeps = keeps_on f.keeps g.keeps;
-  room = g.room;
+  room = λ h. g.room (f.room h);
   up = omega (arith, f.up, g.up);
   places = g.places ∙ f.places;
   reaches = λ bytes me none. then (f.reaches bytes me none) (rw (f.keeps.readings, f.places) at (g.reaches bytes me none));

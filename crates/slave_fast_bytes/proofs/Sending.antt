@@ -94,15 +94,14 @@ pub record Sending (from end : ℕ) (bytes : List ℕ) (before : Recording) (i :
 
 module _ {from end : ℕ} {bytes : List ℕ} {before : Recording} where
   pub none_sent : from < end
-      → before.entries ≤ length before.log.now / 2
       → length before.log.now < 2 ^ 64
       → Sending from end bytes before from before
-  none_sent some room fits =
+  none_sent some fits =
       record {
         came = λ count. record {
           keeps = keeps_all;
-          room = room;
-          reaches = λ me job b own same. rw (lt-ltb from end some) (stays (machine bytes) before.readings.now room fits);
+          room = λ h. h;
+          reaches = λ me job b own same. rw (lt-ltb from end some) (stays (machine bytes) before.readings.now fits);
         };
         counted = refl;
         taken = refl;
@@ -129,7 +128,7 @@ module _ {from end : ℕ} {bytes : List ℕ} {before : Recording} where
       record {
         came = λ count. record {
           keeps = all;
-          room = rw (put.entries, put.keeps.size) room;
+          room = λ h. rw (put.entries, put.keeps.size) room;
           reaches = λ me job b own same. rw (put.entries, put.used, put.log, ← g.keeps.readings)
               (byte_sent bytes me job count i end
               (rw (← g.keeps.readings) at ((g.came count).reaches me job b own same)) same within
@@ -148,14 +147,13 @@ module _ {from end : ℕ} {bytes : List ℕ} {before : Recording} where
 
 module _ {count : ℕ} {bytes : List ℕ} where
   pub no_chunk : {p : RespondPoint} {r : Recording}
-      → r.entries ≤ length r.log.now / 2
       → length r.log.now < 2 ^ 64
       → Responds count bytes p r p r
-  no_chunk {r = r} room fits =
+  no_chunk {r = r} fits =
       record {
         keeps = keeps_all;
-        room = room;
-        reaches = λ me job b own same. stays (machine bytes) r.readings.now room fits;
+        room = λ h. h;
+        reaches = λ me job b own same. stays (machine bytes) r.readings.now fits;
       }
 
   pub responds_on : {p p₁ p₂ : RespondPoint} {r r₁ r₂ : Recording}
@@ -164,7 +162,7 @@ module _ {count : ℕ} {bytes : List ℕ} where
       → Responds count bytes p r p₂ r₂
   responds_on f g = record {
     keeps = keeps_on f.keeps g.keeps;
-    room = g.room;
+    room = λ h. g.room (f.room h);
     reaches = λ me job b own same. (then) (f.reaches me job b own same) (rw f.keeps.readings at (g.reaches me job b own same));
   }
 
@@ -176,9 +174,9 @@ module _ {count : ℕ} {bytes : List ℕ} where
       → Responds count bytes (RawIntrStat i) r (ClrRdReq i end) (record mid { used = mid.used + 1 })
   chunk_polled {i} {end} {r} s fits put = record {
     keeps = record { readings = put.keeps.readings; loan = put.keeps.loan; size = put.keeps.size };
-    room = rw (put.entries, put.keeps.size) (omega (arith, s.fits));
+    room = λ h. rw (put.entries, put.keeps.size) (omega (arith, s.fits));
     reaches = λ me job b own same. rw (put.entries, put.used, put.log)
-        (poll_sends bytes me job count i end (stays (machine bytes) r.readings.now (omega (arith, s.fits)) fits)
+        (poll_sends bytes me job count i end (stays (machine bytes) r.readings.now fits)
         own s.quiet s.before s.ends (omega (arith, s.fits)) (omega (arith, s.left)));
   }
 
@@ -190,7 +188,7 @@ module _ {count : ℕ} {bytes : List ℕ} where
       → Responds count bytes (IntrMask i) r (RawIntrStat i) mid
   chunk_waited {i} {r} room fits put = record {
     keeps = put.keeps;
-    room = rw (put.entries, put.keeps.size) room;
+    room = λ h. rw (put.entries, put.keeps.size) room;
     reaches = λ me job b own same. rw (put.entries, put.used, put.log)
-        (waits bytes me job count i i (stays (machine bytes) r.readings.now (omega (arith, room)) fits) room);
+        (waits bytes me job count i i (stays (machine bytes) r.readings.now fits) room);
   }

@@ -1,7 +1,7 @@
 // `listen`: STATUS says that a byte is there, and it is stored; when the FIFO
 // is empty, RX_TL and INTR_MASK are set, and the next poll finds bytes again.
 ghost use Rattle.std.specs.Prelude.{true, List, ◌≡◌, ℕ, ◌<◌, ◌≤◌, length};
-ghost use Rattle.regs.specs.Inner.Recording.{room_of};
+ghost use Rattle.regs_runs.specs.Inner.Puts.{Grows};
 ghost use Rattle.slave_fast_bytes.specs.Inner.Bursts.{Drains, ForAny, straight_byte, straight_poll};
 
 use regs::access::Recording;
@@ -33,9 +33,8 @@ impl Message {
     // A byte, if one is there that has a place before the last, and whether it was stored.
     fn byte(&mut self, recording: &mut Recording, buffer: &mut [u8]) -> bool
         requires within { self.old.places ≤ length buffer.old }
-        requires room { recording.old.entries ≤ room_of recording.old }
         ensures drains { Drains self.old recording.old buffer.old self.new recording.new buffer.new }
-        ensures stored { result ≡ true → recording.old.entries < recording.new.entries }
+        ensures stored { result ≡ true → Grows recording.old recording.new }
     {
         if 1 < self.places.saturating_sub(self.index) && has(recording, 2, 2) {
             let status = recording.readings[recording.used];
@@ -54,10 +53,9 @@ impl Message {
 
     // The empty FIFO and the next poll, if it finds bytes again, and whether it was made.
     fn poll(&mut self, recording: &mut Recording) -> bool
-        requires { recording.old.entries ≤ room_of recording.old }
         ensures drains { ForAny
             (λ (buffer : List ℕ). Drains self.old recording.old buffer self.new recording.new buffer) }
-        ensures made { result ≡ true → recording.old.entries < recording.new.entries }
+        ensures made { result ≡ true → Grows recording.old recording.new }
     {
         if self.index < self.places && has(recording, 3, 6) {
             let status = recording.readings[recording.used];
@@ -80,7 +78,6 @@ impl Message {
 
     // Byte after byte and poll after poll, where the places are within the buffer.
     pub fn burst(&mut self, recording: &mut Recording, buffer: &mut [u8])
-        requires { recording.old.entries ≤ room_of recording.old }
         ensures { Drains self.old recording.old buffer.old self.new recording.new buffer.new }
     {
         if usize::from(self.places) <= buffer.len() {

@@ -29,7 +29,6 @@ fn send(from: u16, end: u16, bytes: &[u8], recording: &mut Recording)
 
 // Where the chunk at byte i ends, if it leads straight on.
 fn planned(i: u16, count: u16, recording: &Recording) -> Option<u16>
-    requires { recording.now.entries ≤ room_of recording.now }
     ensures { IfSome result (λ end. StraightChunk recording.now i count end) }
 {
     if i >= count {
@@ -48,7 +47,6 @@ fn planned(i: u16, count: u16, recording: &Recording) -> Option<u16>
 
 // Chunk after chunk, where the bytes are within the buffer; the byte that is next then.
 pub fn burst(from: u16, count: u16, bytes: &[u8], recording: &mut Recording) -> u16
-    requires { recording.old.entries ≤ room_of recording.old }
     ensures { Responds count bytes.now (RawIntrStat from) recording.old (RawIntrStat result) recording.new }
 {
     let mut i = from;

@@ -64,17 +64,17 @@ module _ (bytes : List ℕ) {readings : List ℕ} (me : SlaveState) (none : me.p
       did_mark g₃ {x = PENDING} refl (omega (arith, room)) refl q₄
 
 -- no poll, one poll after the other, and a poll's entries with its readings
-pub no_wait : {r : Recording} → r.entries ≤ length r.log.now / 2 → length r.log.now < 2 ^ 64 → Awaits r r
-no_wait {r} room fits = record {
+pub no_wait : {r : Recording} → length r.log.now < 2 ^ 64 → Awaits r r
+no_wait {r} fits = record {
   keeps = keeps_all;
-  room = room;
-  reaches = λ bytes me places i b none more. stays (machine bytes) r.readings.now room fits;
+  room = λ h. h;
+  reaches = λ bytes me places i b none more. stays (machine bytes) r.readings.now fits;
 }
 
 pub wait_after : {r r₁ r₂ : Recording} → Awaits r r₁ → Awaits r₁ r₂ → Awaits r r₂
 wait_after x y = record {
   keeps = keeps_on x.keeps y.keeps;
-  room = y.room;
+  room = λ h. y.room (x.room h);
   reaches = λ bytes me places i b none more. then (x.reaches bytes me places i b none more)
       (rw x.keeps.readings at (y.reaches bytes me places i b none more));
 }
@@ -92,7 +92,7 @@ pub waited : {before mid : Recording}
     → Awaits before (record mid { used = mid.used + 2 })
 waited {before} put left room fits idle = record {
   keeps = record { readings = put.keeps.readings; loan = put.keeps.loan; size = put.keeps.size };
-  room = rw (put.entries, put.keeps.size) room;
+  room = λ h. rw (put.entries, put.keeps.size) room;
   reaches = λ bytes me places i b none more. rw (put.entries, put.used, put.log)
-      (poll_awaits bytes me none places i (stays (machine bytes) before.readings.now (omega (arith, room)) fits) more idle room left);
+      (poll_awaits bytes me none places i (stays (machine bytes) before.readings.now fits) more idle room left);
 }

@@ -53,17 +53,17 @@ module _ (bytes : List ℕ) {readings : List ℕ} (me : SlaveState) (job : Job) 
       rw (q₂, q₃) at (waits bytes me job count i i g₁ (omega (arith, room)))
 
 -- no poll, one poll after the other, and a poll's entries with its readings
-pub no_idle : {r : Recording} → r.entries ≤ length r.log.now / 2 → length r.log.now < 2 ^ 64 → Idles r r
-no_idle {r} room fits = record {
+pub no_idle : {r : Recording} → length r.log.now < 2 ^ 64 → Idles r r
+no_idle {r} fits = record {
   keeps = keeps_all;
-  room = room;
-  reaches = λ bytes me job count i b sent. stays (machine bytes) r.readings.now room fits;
+  room = λ h. h;
+  reaches = λ bytes me job count i b sent. stays (machine bytes) r.readings.now fits;
 }
 
 pub idle_after : {r r₁ r₂ : Recording} → Idles r r₁ → Idles r₁ r₂ → Idles r r₂
 idle_after x y = record {
   keeps = keeps_on x.keeps y.keeps;
-  room = y.room;
+  room = λ h. y.room (x.room h);
   reaches = λ bytes me job count i b sent. then (x.reaches bytes me job count i b sent)
       (rw x.keeps.readings at (y.reaches bytes me job count i b sent));
 }
@@ -80,7 +80,7 @@ pub idled : {before mid : Recording}
     → Idles before (record mid { used = mid.used + 1 })
 idled {before} put left room fits idle = record {
   keeps = record { readings = put.keeps.readings; loan = put.keeps.loan; size = put.keeps.size };
-  room = rw (put.entries, put.keeps.size) room;
+  room = λ h. rw (put.entries, put.keeps.size) room;
   reaches = λ bytes me job count i b sent. rw (put.entries, put.used, put.log)
-      (poll_idle bytes me job count i (stays (machine bytes) before.readings.now (omega (arith, room)) fits) sent idle room (omega (arith, left)));
+      (poll_idle bytes me job count i (stays (machine bytes) before.readings.now fits) sent idle room (omega (arith, left)));
 }

@@ -1,8 +1,8 @@
 // Polls that find nothing to do: INTR_MASK is set, and the next poll comes.
 #![tactic(auto)]
 
-ghost use Rattle.std.specs.Prelude.{true, ◌≡◌, ◌<◌, ◌≤◌};
-ghost use Rattle.regs.specs.Inner.Recording.{room_of};
+ghost use Rattle.std.specs.Prelude.{true, ◌≡◌};
+ghost use Rattle.regs_runs.specs.Inner.Puts.{Grows};
 ghost use Rattle.slave_fast_polls.specs.Inner.Idles.{Idles, idle_poll, Awaits, idle_listen};
 
 use regs::access::Recording;
@@ -17,9 +17,8 @@ fn is_idle(stat: u32) -> bool
 
 // One poll of a response whose bytes are all sent, if it finds nothing, and whether it did.
 fn idle(recording: &mut Recording) -> bool
-    requires { recording.old.entries ≤ room_of recording.old }
     ensures idles { Idles recording.old recording.new }
-    ensures found_nothing { result ≡ true → recording.old.entries < recording.new.entries }
+    ensures found_nothing { result ≡ true → Grows recording.old recording.new }
 {
     if has(recording, 1, 3) {
         let stat = recording.readings[recording.used];
@@ -36,7 +35,6 @@ fn idle(recording: &mut Recording) -> bool
 
 // Of a response whose bytes are all sent.
 pub fn respond(recording: &mut Recording)
-    requires { recording.old.entries ≤ room_of recording.old }
     ensures { Idles recording.old recording.new }
 {
     while idle(recording) {}
@@ -50,9 +48,8 @@ fn is_idle_listen(stat: u32, filled: u32) -> bool
 
 // One poll of `listen` with no byte pending, if it finds nothing, and whether it did.
 fn wait(recording: &mut Recording) -> bool
-    requires { recording.old.entries ≤ room_of recording.old }
     ensures awaits { Awaits recording.old recording.new }
-    ensures found_nothing { result ≡ true → recording.old.entries < recording.new.entries }
+    ensures found_nothing { result ≡ true → Grows recording.old recording.new }
 {
     if has(recording, 2, 4) {
         let stat = recording.readings[recording.used];
@@ -71,7 +68,6 @@ fn wait(recording: &mut Recording) -> bool
 
 // Of `listen`, with no byte pending.
 pub fn listen(recording: &mut Recording)
-    requires { recording.old.entries ≤ room_of recording.old }
     ensures { Awaits recording.old recording.new }
 {
     while wait(recording) {}

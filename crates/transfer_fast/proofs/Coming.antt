@@ -1,5 +1,5 @@
 -- A transfer comes as far as the burst that begins at its point, and then as far as the polls there.
-use Prim.Native.Nat.{ℕ, ◌/◌, ◌<◌, ◌≤◌, ◌^◌}
+use Prim.Native.Nat.{ℕ, ◌<◌, ◌^◌}
 use mathlib.Core.List.{List}
 use mathlib.Core.Path.{◌≡◌, sym, ap}
 use lib.ListN.{length}
@@ -19,12 +19,12 @@ at_its_point : (t : Transfer) {p : Point} → t.point ≡ p → with_point t p �
 at_its_point t e = ap (with_point t) (sym e)
 
 module _ {t : Transfer} {bytes : List ℕ} {before : Recording} {b : List ℕ} where
-  pub not_ahead : before.entries ≤ length before.log.now / 2 → length before.log.now < 2 ^ 64
+  pub not_ahead : length before.log.now < 2 ^ 64
       → GoesAhead t bytes before b before b (Some t.point)
-  not_ahead room fits = record {
+  not_ahead fits = record {
     keeps = keeps_all;
-    room = room;
-    reaches = λ coded kinds lengths. stays (machine coded kinds lengths bytes) before.readings.now room fits;
+    room = λ h. h;
+    reaches = λ coded kinds lengths. stays (machine coded kinds lengths bytes) before.readings.now fits;
   }
 
   -- byte after byte, or rounds of an async read
@@ -52,7 +52,7 @@ module _ {t : Transfer} {bytes : List ℕ} {before : Recording} {b : List ℕ} w
       → GoesAhead t bytes before b after b' (Some p)
   then_polls {b' = b'} x y = record {
     keeps = keeps_on x.keeps y.keeps;
-    room = y.room;
+    room = λ h. y.room (x.room h);
     reaches = λ coded kinds lengths. then (x.reaches coded kinds lengths)
         (rw x.keeps.readings at (y.reaches coded kinds lengths bytes t b'));
   }

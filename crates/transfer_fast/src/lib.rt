@@ -2,8 +2,7 @@
 // burst, if one begins there, and polls that find nothing.
 #![tactic(auto)]
 
-ghost use Rattle.std.specs.Prelude.{Option, ◌≤◌};
-ghost use Rattle.regs.specs.Inner.Recording.{room_of};
+ghost use Rattle.std.specs.Prelude.{Option};
 ghost use Rattle.transfer_fast.specs.Inner.GoesAhead.{GoesAhead};
 
 use regs::access::Recording;
@@ -18,7 +17,6 @@ fn burst_from(
     recording: &mut Recording,
     buffer: &mut [u8],
 ) -> Option<Point>
-    requires { recording.old.entries ≤ room_of recording.old }
     ensures { GoesAhead t bytes.now recording.old buffer.old recording.new buffer.new result }
 {
     match t.point {
@@ -49,7 +47,6 @@ pub fn ahead_from(
     recording: &mut Recording,
     buffer: &mut [u8],
 ) -> Option<Point>
-    requires { recording.old.entries ≤ room_of recording.old }
     ensures { GoesAhead t bytes.now recording.old buffer.old recording.new buffer.new result }
 {
     let reached = burst_from(t, bytes, recording, buffer);

@@ -16,20 +16,20 @@ use Rattle.regs_runs.proofs.Reach.{stays, then, keeps_all, keeps_on}
 use Rattle.transfer_fast_blocking.specs.Inner.Bursts.{Bursts}
 
 module _ {t : Transfer} {bytes : List ℕ} where
-  pub no_burst : {p : Point} {r : Recording} {b : List ℕ} → r.entries ≤ length r.log.now / 2 → length r.log.now < 2 ^ 64
+  pub no_burst : {p : Point} {r : Recording} {b : List ℕ} → length r.log.now < 2 ^ 64
       → Bursts t bytes r b p r b p
-  no_burst {r = r} room fits = record {
+  no_burst {r = r} fits = record {
     keeps = keeps_all;
-    room = room;
+    room = λ h. h;
     size = refl;
-    reaches = λ coded kinds lengths. stays (machine coded kinds lengths bytes) r.readings.now room fits;
+    reaches = λ coded kinds lengths. stays (machine coded kinds lengths bytes) r.readings.now fits;
   }
 
   pub burst_after : {p p₁ p₂ : Point} {r r₁ r₂ : Recording} {b b₁ b₂ : List ℕ}
       → Bursts t bytes r b p r₁ b₁ p₁ → Bursts t bytes r₁ b₁ p₁ r₂ b₂ p₂ → Bursts t bytes r b p r₂ b₂ p₂
   burst_after x y = record {
     keeps = keeps_on x.keeps y.keeps;
-    room = y.room;
+    room = λ h. y.room (x.room h);
     size = y.size ∙ x.size;
     reaches = λ coded kinds lengths. then (x.reaches coded kinds lengths) (rw x.keeps.readings at (y.reaches coded kinds lengths));
   }
@@ -48,7 +48,7 @@ module _ {t : Transfer} {bytes : List ℕ} where
       → Bursts t bytes before b p after b' p'
   burst_of keeps entries used log room size run = record {
     keeps = keeps;
-    room = rw (entries, keeps.size) room;
+    room = λ h. rw (entries, keeps.size) room;
     size = size;
     reaches = λ coded kinds lengths. rw (entries, used, log) (run coded kinds lengths);
   }

@@ -1,6 +1,5 @@
 // `read_blocking_internal`: TXFLR has room, the byte is asked for, RXFLR has it, and it is taken.
 ghost use Rattle.std.specs.Prelude.{List, true, false, ◌≡◌, ℕ, ◌+◌, ◌<◌, ◌≤◌, length};
-ghost use Rattle.regs.specs.Inner.Recording.{room_of};
 ghost use Rattle.transfer.specs.declared.Point.TheVariants.{ReadBlocking};
 ghost use Rattle.transfer.specs.declared.ReadPoint.TheVariants.{Room};
 ghost use Rattle.transfer_fast_blocking.specs.Inner.Bursts.{Bursts, ForAny, straight_read};
@@ -20,8 +19,7 @@ fn is_straight(room: u32, filled: u32) -> bool
 // Byte i, where the readings lead straight on; it is not the last one.
 fn byte(t: Transfer, i: u16, recording: &mut Recording, buffer: &mut [u8]) -> bool
     requires { (i + 1 < t.operation.len)
-        × (t.operation.at + t.operation.len ≤ length buffer.old + 1)
-        × (recording.old.entries ≤ room_of recording.old) }
+        × (t.operation.at + t.operation.len ≤ length buffer.old + 1) }
     ensures taken { result ≡ true
         → ForAny
         (λ (bytes : List ℕ). Bursts t bytes recording.old buffer.old (ReadBlocking (Room i))
@@ -52,8 +50,7 @@ fn byte(t: Transfer, i: u16, recording: &mut Recording, buffer: &mut [u8]) -> bo
 // Byte after byte, up to the one that is next; the last one is the machine's.
 fn run(t: Transfer, from: u16, recording: &mut Recording, buffer: &mut [u8]) -> u16
     requires { (from < t.operation.len)
-        × (t.operation.at + t.operation.len ≤ length buffer.old + 1)
-        × (recording.old.entries ≤ room_of recording.old) }
+        × (t.operation.at + t.operation.len ≤ length buffer.old + 1) }
     ensures { ForAny
         (λ (bytes : List ℕ). Bursts t bytes recording.old buffer.old (ReadBlocking (Room from))
         recording.new buffer.new (ReadBlocking (Room result))) }
@@ -69,7 +66,6 @@ fn run(t: Transfer, from: u16, recording: &mut Recording, buffer: &mut [u8]) -> 
 
 // The bytes from one on, where they are within the buffer, up to the one that is next.
 pub fn burst(t: Transfer, from: u16, recording: &mut Recording, buffer: &mut [u8]) -> u16
-    requires { recording.old.entries ≤ room_of recording.old }
     ensures { ForAny
         (λ (bytes : List ℕ). Bursts t bytes recording.old buffer.old (ReadBlocking (Room from))
         recording.new buffer.new (ReadBlocking (Room result))) }

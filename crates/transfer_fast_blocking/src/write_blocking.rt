@@ -1,7 +1,6 @@
 // `write_blocking_internal`: the word is written, RAW_INTR_STAT says
 // that it was sent, and TX_ABRT_SOURCE that nothing was aborted.
 ghost use Rattle.std.specs.Prelude.{List, true, false, ◌≡◌, ℕ, ◌+◌, ◌<◌, ◌≤◌, length};
-ghost use Rattle.regs.specs.Inner.Recording.{room_of};
 ghost use Rattle.transfer.specs.declared.Point.TheVariants.{WriteBlocking};
 ghost use Rattle.transfer.specs.declared.WritePoint.TheVariants.{Send};
 ghost use Rattle.transfer_fast_blocking.specs.Inner.Bursts.{Bursts, ForAny, straight_write};
@@ -21,8 +20,7 @@ fn is_straight(stat: u32, source: u32) -> bool
 // Byte i, where the readings lead straight on; it is not the last one.
 fn byte(t: Transfer, i: u16, bytes: &[u8], recording: &mut Recording) -> bool
     requires { (i + 1 < t.operation.len)
-        × (t.operation.at + t.operation.len ≤ length bytes.now + 1)
-        × (recording.old.entries ≤ room_of recording.old) }
+        × (t.operation.at + t.operation.len ≤ length bytes.now + 1) }
     ensures sent { result ≡ true
         → ForAny
         (λ (buffer : List ℕ). Bursts t bytes.now recording.old buffer (WriteBlocking (Send i))
@@ -50,8 +48,7 @@ fn byte(t: Transfer, i: u16, bytes: &[u8], recording: &mut Recording) -> bool
 // Byte after byte, up to the one that is next; the last one is the machine's.
 fn run(t: Transfer, from: u16, bytes: &[u8], recording: &mut Recording) -> u16
     requires { (from < t.operation.len)
-        × (t.operation.at + t.operation.len ≤ length bytes.now + 1)
-        × (recording.old.entries ≤ room_of recording.old) }
+        × (t.operation.at + t.operation.len ≤ length bytes.now + 1) }
     ensures { ForAny
         (λ (buffer : List ℕ). Bursts t bytes.now recording.old buffer (WriteBlocking (Send from))
         recording.new buffer (WriteBlocking (Send result))) }
@@ -67,7 +64,6 @@ fn run(t: Transfer, from: u16, bytes: &[u8], recording: &mut Recording) -> u16
 
 // The bytes from one on, where they are within the buffer, up to the one that is next.
 pub fn burst(t: Transfer, from: u16, bytes: &[u8], recording: &mut Recording) -> u16
-    requires { recording.old.entries ≤ room_of recording.old }
     ensures { ForAny
         (λ (buffer : List ℕ). Bursts t bytes.now recording.old buffer (WriteBlocking (Send from))
         recording.new buffer (WriteBlocking (Send result))) }

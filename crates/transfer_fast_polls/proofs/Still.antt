@@ -13,17 +13,17 @@ use Rattle.regs_runs.specs.Inner.Reaches.{Reaches}
 use Rattle.regs_runs.proofs.Reach.{stays, then, keeps_all, keeps_on}
 use Rattle.transfer_fast_polls.specs.Inner.Stays.{Stays}
 
-pub no_poll : {p : Point} {r : Recording} → r.entries ≤ length r.log.now / 2 → length r.log.now < 2 ^ 64 → Stays p r r
-no_poll {r = r} room fits = record {
+pub no_poll : {p : Point} {r : Recording} → length r.log.now < 2 ^ 64 → Stays p r r
+no_poll {r = r} fits = record {
   keeps = keeps_all;
-  room = room;
-  reaches = λ coded kinds lengths bytes t b. stays (machine coded kinds lengths bytes) r.readings.now room fits;
+  room = λ h. h;
+  reaches = λ coded kinds lengths bytes t b. stays (machine coded kinds lengths bytes) r.readings.now fits;
 }
 
 pub poll_after : {p : Point} {r r₁ r₂ : Recording} → Stays p r r₁ → Stays p r₁ r₂ → Stays p r r₂
 poll_after x y = record {
   keeps = keeps_on x.keeps y.keeps;
-  room = y.room;
+  room = λ h. y.room (x.room h);
   reaches = λ coded kinds lengths bytes t b. then (x.reaches coded kinds lengths bytes t b)
       (rw x.keeps.readings at (y.reaches coded kinds lengths bytes t b));
 }
@@ -37,6 +37,6 @@ pub polled : (m : ℕ) {p : Point} {before mid : Recording} {n : ℕ} {l : List 
     → Stays p before (record mid { used = mid.used + m })
 polled m put room run = record {
   keeps = record { readings = put.keeps.readings; loan = put.keeps.loan; size = put.keeps.size };
-  room = rw (put.entries, put.keeps.size) room;
+  room = λ h. rw (put.entries, put.keeps.size) room;
   reaches = λ coded kinds lengths bytes t b. rw (put.entries, put.used, put.log) (run coded kinds lengths bytes t b);
 }

@@ -1,6 +1,6 @@
 // `write_blocking_internal`: RAW_INTR_STAT is read until TX_EMPTY is set, or STOP_DET.
-ghost use Rattle.std.specs.Prelude.{true, ◌≡◌, ◌<◌, ◌≤◌};
-ghost use Rattle.regs.specs.Inner.Recording.{room_of};
+ghost use Rattle.std.specs.Prelude.{true, ◌≡◌};
+ghost use Rattle.regs_runs.specs.Inner.Puts.{Grows};
 ghost use Rattle.transfer.specs.declared.Point.{Point};
 ghost use Rattle.transfer_fast_blocking.specs.Inner.Bursts.{ForAny};
 ghost use Rattle.transfer_fast_polls.specs.Inner.Stays.{Stays, flag_set, AwaitsFlag};
@@ -21,10 +21,9 @@ fn is_set(stop: bool, stat: u32) -> bool
 }
 
 pub fn poll(stop: bool, recording: &mut Recording) -> bool
-    requires { recording.old.entries ≤ room_of recording.old }
     ensures stays { ForAny
         (λ (p : Point). AwaitsFlag stop p → Stays p recording.old recording.new) }
-    ensures found_nothing { result ≡ true → recording.old.entries < recording.new.entries }
+    ensures found_nothing { result ≡ true → Grows recording.old recording.new }
 {
     if has(recording, 1, 1) {
         let stat = recording.readings[recording.used];

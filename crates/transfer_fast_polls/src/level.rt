@@ -1,6 +1,6 @@
 // `read_blocking_internal`: RXFLR has no byte yet, and TX_ABRT_SOURCE says that nothing was aborted.
-ghost use Rattle.std.specs.Prelude.{true, ◌≡◌, ℕ, ◌<◌, ◌≤◌};
-ghost use Rattle.regs.specs.Inner.Recording.{room_of};
+ghost use Rattle.std.specs.Prelude.{true, ◌≡◌, ℕ};
+ghost use Rattle.regs_runs.specs.Inner.Puts.{Grows};
 ghost use Rattle.transfer.specs.declared.Point.TheVariants.{ReadBlocking};
 ghost use Rattle.transfer.specs.declared.ReadPoint.TheVariants.{Level};
 ghost use Rattle.transfer_fast_blocking.specs.Inner.Bursts.{ForAny};
@@ -17,10 +17,9 @@ fn is_empty(filled: u32, source: u32) -> bool
 }
 
 pub fn poll(recording: &mut Recording) -> bool
-    requires { recording.old.entries ≤ room_of recording.old }
     ensures stays { ForAny
         (λ (i : ℕ). Stays (ReadBlocking (Level i)) recording.old recording.new) }
-    ensures found_nothing { result ≡ true → recording.old.entries < recording.new.entries }
+    ensures found_nothing { result ≡ true → Grows recording.old recording.new }
 {
     if has(recording, 2, 2) {
         let filled = recording.readings[recording.used];

@@ -5,8 +5,8 @@ pub mod flag; // RAW_INTR_STAT, for a flag
 pub mod level; // RXFLR, for a byte
 pub mod wait; // the async forms' waits
 
-ghost use Rattle.std.specs.Prelude.{true, ◌≡◌, ◌<◌, ◌≤◌};
-ghost use Rattle.regs.specs.Inner.Recording.{room_of};
+ghost use Rattle.std.specs.Prelude.{true, ◌≡◌};
+ghost use Rattle.regs_runs.specs.Inner.Puts.{Grows};
 ghost use Rattle.transfer_fast_polls.specs.Inner.Stays.{Stays};
 
 use regs::access::Recording;
@@ -15,9 +15,8 @@ use transfer::{AbortPoint, Caller, Point, ReadPoint, RoundPoint, WritePoint};
 // One poll at a point, if it is one where a transfer polls, and whether it found nothing.
 // What it did not make is left to the machine.
 fn poll(p: Point, recording: &mut Recording) -> bool
-    requires { recording.old.entries ≤ room_of recording.old }
     ensures stays { Stays p recording.old recording.new }
-    ensures found_nothing { result ≡ true → recording.old.entries < recording.new.entries }
+    ensures found_nothing { result ≡ true → Grows recording.old recording.new }
 {
     match p {
         Point::WriteBlocking(WritePoint::Empty(_)) => flag::poll(false, recording),
@@ -32,7 +31,6 @@ fn poll(p: Point, recording: &mut Recording) -> bool
 
 // The polls at a point until one finds something.
 pub fn polls(p: Point, recording: &mut Recording)
-    requires { recording.old.entries ≤ room_of recording.old }
     ensures { Stays p recording.old recording.new }
 {
     while poll(p, recording) {}

@@ -2,7 +2,7 @@
 // INTR_MASK and makes its mark, and the next poll comes.
 ghost use Rattle.std.specs.Prelude.{true, ◌≡◌, ℕ, ◌+◌, ◌<◌, ◌≤◌};
 ghost use Rattle.regs.specs.Inner.Recording.{room_of};
-ghost use Rattle.regs_runs.specs.Inner.Puts.{Puts};
+ghost use Rattle.regs_runs.specs.Inner.Puts.{Grows, Puts};
 ghost use Rattle.transfer.specs.declared.Round.{Round};
 ghost use Rattle.transfer.specs.declared.Point.TheVariants.{Abort, ReadAsync};
 ghost use Rattle.transfer.specs.declared.RoundPoint.TheVariants.{Level};
@@ -37,11 +37,10 @@ fn is_too_few(batch: u16, filled: u32, source: u32) -> bool
 
 // RXFLR has not reached the words of the round.
 pub fn batch(batch: u16, recording: &mut Recording) -> bool
-    requires { recording.old.entries ≤ room_of recording.old }
     ensures stays { ForAny
         (λ (x : Round). x.batch ≡ batch → Stays (ReadAsync (Level x)) recording.old
         recording.new) }
-    ensures found_nothing { result ≡ true → recording.old.entries < recording.new.entries }
+    ensures found_nothing { result ≡ true → Grows recording.old recording.new }
 {
     if has(recording, 3, 6) {
         let filled = recording.readings[recording.used];
@@ -67,10 +66,9 @@ fn is_full(source: u32, filled: u32) -> bool
 
 // TXFLR has no place.
 pub fn space(recording: &mut Recording) -> bool
-    requires { recording.old.entries ≤ room_of recording.old }
     ensures stays { ForAny
         (λ (i : ℕ). Stays (Abort Source (Space i)) recording.old recording.new) }
-    ensures found_nothing { result ≡ true → recording.old.entries < recording.new.entries }
+    ensures found_nothing { result ≡ true → Grows recording.old recording.new }
 {
     if has(recording, 3, 6) {
         let source = recording.readings[recording.used];
@@ -96,9 +94,8 @@ fn is_going(source: u32, stat: u32) -> bool
 
 // No STOP yet.
 pub fn stop(recording: &mut Recording) -> bool
-    requires { recording.old.entries ≤ room_of recording.old }
     ensures stays { Stays (Abort Source (Stop (Ok tt))) recording.old recording.new }
-    ensures found_nothing { result ≡ true → recording.old.entries < recording.new.entries }
+    ensures found_nothing { result ≡ true → Grows recording.old recording.new }
 {
     if has(recording, 3, 5) {
         let source = recording.readings[recording.used];

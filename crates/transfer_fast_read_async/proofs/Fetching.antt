@@ -67,12 +67,12 @@ pub record Fetching (t : Transfer) (remaining count : ℕ) (before : Recording) 
   pub wide : length b' ≡ length b
 
 module _ {t : Transfer} {remaining count : ℕ} {before : Recording} {b : List ℕ} where
-  pub none_fetched : 0 < count → before.entries ≤ length before.log.now / 2 → length before.log.now < 2 ^ 64
+  pub none_fetched : 0 < count → length before.log.now < 2 ^ 64
       → Fetching t remaining count before b 0 before b
-  none_fetched some room fits = record {
+  none_fetched some fits = record {
     came = λ bytes queue batch.
         let all : count - 0 ≡ count = omega arith in
-        rw (all, ne_eqb count 0 (λ (z : count ≡ 0). omega (arith, some, z))) (no_burst room fits);
+        rw (all, ne_eqb count 0 (λ (z : count ≡ 0). omega (arith, some, z))) (no_burst fits);
     entries = omega arith;
     used = omega arith;
     keeps = keeps_all;
@@ -107,7 +107,7 @@ module _ {t : Transfer} {remaining count : ℕ} {before : Recording} {b : List �
         came = λ bytes queue batch. burst_after (g.came bytes queue batch)
             (rw (← fewer) (burst_of x.keeps x.entries x.used x.log (omega (arith, space)) wide
             (λ coded kinds lengths. rw (eb, x.value) (byte_fetched coded kinds lengths bytes t remaining queue batch (count - n) place
-            (stays (machine coded kinds lengths bytes) mid.readings.now (omega (arith, space)) short)
+            (stays (machine coded kinds lengths bytes) mid.readings.now short)
             (omega (arith, more)) some space has to))));
         entries = omega (arith, x.entries, g.entries);
         used = omega (arith, x.used, g.used);

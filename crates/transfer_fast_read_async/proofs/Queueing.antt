@@ -62,13 +62,13 @@ pub record Queueing (t : Transfer) (queue words : ℕ) (before : Recording) (n :
   pub keeps : Keeps before after
 
 module _ {t : Transfer} {queue words : ℕ} {before : Recording} where
-  pub none_queued : 0 < words → before.entries ≤ length before.log.now / 2 → length before.log.now < 2 ^ 64
+  pub none_queued : 0 < words → length before.log.now < 2 ^ 64
       → Queueing t queue words before 0 before
-  none_queued some room fits = record {
+  none_queued some fits = record {
     came = λ bytes b remaining batch.
         let all : words - 0 ≡ words = omega arith in
         let whole : queue - 0 ≡ queue = omega arith in
-        rw (all, whole, ne_eqb words 0 (λ (z : words ≡ 0). omega (arith, some, z))) (no_burst room fits);
+        rw (all, whole, ne_eqb words 0 (λ (z : words ≡ 0). omega (arith, some, z))) (no_burst fits);
     entries = omega arith;
     used = refl;
     keeps = keeps_all;
@@ -92,7 +92,7 @@ module _ {t : Transfer} {queue words : ℕ} {before : Recording} where
         came = λ bytes b remaining batch. burst_after (g.came bytes b remaining batch)
             (rw (← fewer, ← next) (burst_of x.keeps x.entries x.used x.log (omega (arith, space)) refl
             (λ coded kinds lengths. rw ew (word_queued coded kinds lengths bytes t remaining (queue - n) batch (words - n)
-            (stays (machine coded kinds lengths bytes) mid.readings.now (omega (arith, space)) small)
+            (stays (machine coded kinds lengths bytes) mid.readings.now small)
             (omega (arith, more)) space))));
         entries = omega (arith, x.entries, g.entries);
         used = x.used ∙ g.used;

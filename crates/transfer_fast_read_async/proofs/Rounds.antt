@@ -87,7 +87,7 @@ round_done {t} {x} {words} {count} {r} {r₁} {r₂} {r₃} {r₄} {r₅} {b} {b
     let g₁ : Bursts t bytes r b (ReadAsync (Capacity x)) r₁ b (ReadAsync (Queue (round x.remaining x.queue words) words)) =
     burst_of e₁.keeps e₁.entries e₁.used e₁.log room refl
     (λ coded kinds lengths. rw e₁.value (counted coded kinds lengths bytes t x.remaining x.queue x.batch words count
-    (stays (machine coded kinds lengths bytes) r.readings.now (omega (arith, room)) fits) s.some s.words_are
+    (stays (machine coded kinds lengths bytes) r.readings.now fits) s.some s.words_are
     (omega (arith, room)) (omega (arith, s.left)))) in
     let g₂ = burst_after g₁ (q.bursts bytes b x.remaining words) in
     let u₂ : r₂.used ≡ r.used + 1 = q.used ∙ e₁.used in
@@ -100,7 +100,7 @@ round_done {t} {x} {words} {count} {r} {r₁} {r₂} {r₃} {r₄} {r₅} {b} {b
     burst_of (keeps_on e₃.keeps e₄.keeps) (omega (arith, e₃.entries, e₄.entries)) (omega (arith, e₃.used, e₄.used))
     (rw (e₃.log, e₃.entries, e₃.value, e₄.value, e₃.keeps.readings, e₃.used) at e₄.log) room₂ refl
     (λ coded kinds lengths. polled coded kinds lengths bytes t x.remaining (x.queue - words) words words count
-    (stays (machine coded kinds lengths bytes) r₂.readings.now (omega (arith, room₂)) (rw g₂.keeps.size fits)) s.some
+    (stays (machine coded kinds lengths bytes) r₂.readings.now (rw g₂.keeps.size fits)) s.some
     (omega (arith, s.more)) (rw (same, u₂) s.filled) (rw (same, u₃) s.quiet) (rw (same, u₂) s.count_is) room₂
     (rw same (omega (arith, s.left, u₂)))) in
     burst_after (burst_after g₂ g₃) (f.bursts bytes (x.queue - words) words)

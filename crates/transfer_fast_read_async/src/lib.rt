@@ -5,6 +5,7 @@
 
 ghost use Rattle.std.specs.Prelude.{List, Option, IfSome, ◌≡◌, ℕ, ◌+◌, ◌-◌, ◌<◌, ◌≤◌, length};
 ghost use Rattle.regs.specs.Inner.Recording.{room_of};
+ghost use Rattle.regs_runs.specs.Inner.Puts.{Grows};
 ghost use Rattle.transfer.specs.declared.Point.TheVariants.{ReadAsync};
 ghost use Rattle.transfer.specs.declared.RoundPoint.TheVariants.{Capacity};
 ghost use Rattle.transfer_fast_blocking.specs.Inner.Bursts.{Bursts, ForAny};
@@ -67,7 +68,6 @@ struct Plan {
 // The plan of a round, if it leads straight on: the words are there, nothing was
 // aborted, bytes remain, and readings and log are long enough.
 fn planned(round: Round, recording: &Recording) -> Option<Plan>
-    requires { recording.now.entries ≤ room_of recording.now }
     ensures { IfSome result
         (λ (plan : Plan). StraightRound recording.now round plan.words plan.count) }
 {
@@ -105,7 +105,7 @@ fn one_round(
     ensures bursts { ForAny
         (λ (bytes : List ℕ). Bursts t bytes recording.old buffer.old (ReadAsync (Capacity round))
         recording.new buffer.new (ReadAsync (Capacity result))) }
-    ensures more { recording.old.entries < recording.new.entries }
+    ensures more { Grows recording.old recording.new }
 {
     let remaining = round.remaining - plan.count;
     let _room = read(recording, regs::TXFLR);
@@ -123,8 +123,7 @@ fn one_round(
 // Round after round, up to the one that is next; the last one is the machine's.
 fn run(t: Transfer, from: Round, recording: &mut Recording, buffer: &mut [u8]) -> Round
     requires { (from.remaining ≤ t.operation.len)
-        × (t.operation.at + t.operation.len ≤ length buffer.old + 1)
-        × (recording.old.entries ≤ room_of recording.old) }
+        × (t.operation.at + t.operation.len ≤ length buffer.old + 1) }
     ensures { ForAny
         (λ (bytes : List ℕ). Bursts t bytes recording.old buffer.old (ReadAsync (Capacity from))
         recording.new buffer.new (ReadAsync (Capacity result))) }
@@ -138,7 +137,6 @@ fn run(t: Transfer, from: Round, recording: &mut Recording, buffer: &mut [u8]) -
 
 // The rounds from one on, where their bytes are within the buffer, up to the one that is next.
 pub fn burst(t: Transfer, from: Round, recording: &mut Recording, buffer: &mut [u8]) -> Round
-    requires { recording.old.entries ≤ room_of recording.old }
     ensures { ForAny
         (λ (bytes : List ℕ). Bursts t bytes recording.old buffer.old (ReadAsync (Capacity from))
         recording.new buffer.new (ReadAsync (Capacity result))) }

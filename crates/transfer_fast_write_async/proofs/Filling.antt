@@ -75,17 +75,17 @@ same_word true send_stop byte i len other = rw (and_true send_stop)
 same_word false send_stop byte i len other = rw (ne_eqb (i + 1) len (λ (z : i + 1 ≡ len). omega (arith, z, other refl)))
 
 module _ {t : Transfer} {bytes : List ℕ} where
-  pub no_lead : {s : StepTaken} {r : Recording} → r.entries ≤ length r.log.now / 2 → length r.log.now < 2 ^ 64 → Leads t bytes r s r s
-  no_lead {r = r} room fits = record {
+  pub no_lead : {s : StepTaken} {r : Recording} → length r.log.now < 2 ^ 64 → Leads t bytes r s r s
+  no_lead {r = r} fits = record {
     keeps = keeps_all;
-    room = room;
-    reaches = λ coded kinds lengths b. stays (machine coded kinds lengths bytes) r.readings.now room fits;
+    room = λ h. h;
+    reaches = λ coded kinds lengths b. stays (machine coded kinds lengths bytes) r.readings.now fits;
   }
 
   pub lead_after : {s s₁ s₂ : StepTaken} {r r₁ r₂ : Recording} → Leads t bytes r s r₁ s₁ → Leads t bytes r₁ s₁ r₂ s₂ → Leads t bytes r s r₂ s₂
   lead_after x y = record {
     keeps = keeps_on x.keeps y.keeps;
-    room = y.room;
+    room = λ h. y.room (x.room h);
     reaches = λ coded kinds lengths b. then (x.reaches coded kinds lengths b) (rw x.keeps.readings at (y.reaches coded kinds lengths b));
   }
 
@@ -101,18 +101,18 @@ module _ {t : Transfer} {bytes : List ℕ} where
       → Leads t bytes before s after s'
   lead_of keeps entries used log room run = record {
     keeps = keeps;
-    room = rw (entries, keeps.size) room;
+    room = λ h. rw (entries, keeps.size) room;
     reaches = λ coded kinds lengths b. rw (entries, used, log) (run coded kinds lengths b);
   }
 
 -- the loop's head: n of the places are filled
 module _ {t : Transfer} {bytes : List ℕ} {from : ℕ} {before : Recording} where
-  pub none_filled : before.entries ≤ length before.log.now / 2 → length before.log.now < 2 ^ 64 → Filled t bytes from 0 before before
-  none_filled room fits = record {
+  pub none_filled : length before.log.now < 2 ^ 64 → Filled t bytes from 0 before before
+  none_filled fits = record {
     leads = λ space few.
         let all : space - 0 ≡ space = omega arith in
         let first : from + 0 ≡ from = omega arith in
-        rw (all, first) (no_lead room fits);
+        rw (all, first) (no_lead fits);
     keeps = keeps_all;
     entries = omega arith;
     used = refl;
@@ -136,7 +136,7 @@ module _ {t : Transfer} {bytes : List ℕ} {from : ℕ} {before : Recording} whe
             lead_after (g.leads places (omega (arith, few)))
             (rw (← fewer, ← next) (lead_of x.keeps x.entries x.used x.log (omega (arith, space))
             (λ coded kinds lengths b. rw ew (word_written coded kinds lengths bytes t (from + n) (places - n)
-            (stays (machine coded kinds lengths bytes) mid.readings.now (omega (arith, space)) small)
+            (stays (machine coded kinds lengths bytes) mid.readings.now small)
             (omega (arith, few)) more space))));
         keeps = keeps_on g.keeps x.keeps;
         entries = omega (arith, x.entries, g.entries);

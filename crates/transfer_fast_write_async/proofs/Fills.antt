@@ -96,7 +96,7 @@ module _ {t : Transfer} {bytes : List ℕ} {i space count : ℕ} {r r₁ r₂ : 
       lead_after
       (lead_of e.keeps e.entries e.used e.log room
       (λ coded kinds lengths b. rw e.value (counted coded kinds lengths bytes t i space
-      (stays (machine coded kinds lengths bytes) r.readings.now (omega (arith, room)) fits) s.some s.space_is (omega (arith, room))
+      (stays (machine coded kinds lengths bytes) r.readings.now fits) s.some s.space_is (omega (arith, room))
       (omega (arith, s.left)))))
       (f.leads space few)
 
@@ -125,4 +125,4 @@ module _ {t : Transfer} {bytes : List ℕ} {i space count : ℕ} {r r₁ r₂ : 
       (lead_of (keeps_on e₃.keeps e₄.keeps) (omega (arith, e₃.entries, e₄.entries)) (omega (arith, e₃.used, e₄.used))
       (rw (e₃.log, e₃.entries, e₃.value, e₄.value, e₃.keeps.readings, e₃.used) at e₄.log) room
       (λ coded kinds lengths b. polled coded kinds lengths bytes t (i + count)
-      (stays (machine coded kinds lengths bytes) r₂.readings.now (omega (arith, room)) (rw size fits)) polls room))
+      (stays (machine coded kinds lengths bytes) r₂.readings.now (rw size fits)) polls room))

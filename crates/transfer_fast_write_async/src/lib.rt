@@ -22,7 +22,6 @@ use transfer_fast_blocking::{free, is_within};
 // Whether a round that fills all its places is followed by another: the first
 // poll finds no abort and room in the FIFO, and readings and log are long enough.
 fn is_straight(space: u16, recording: &Recording) -> bool
-    requires { recording.now.entries ≤ room_of recording.now }
     ensures { result ≡ true
         → Polls recording.now.readings.now (recording.now.used + 1)
         × (recording.now.entries + space + 3 ≤ room_of recording.now) }
@@ -36,8 +35,7 @@ fn is_straight(space: u16, recording: &Recording) -> bool
 // readings and log are long enough for it. A round whose last place takes the last byte is not
 // the last one: as in the Rust a poll follows, and the next round finds no byte.
 fn planned(i: u16, len: u16, recording: &Recording) -> Option<u16>
-    requires { (i ≤ len)
-        × (recording.now.entries ≤ room_of recording.now) }
+    requires { i ≤ len }
     ensures { IfSome result (λ space. StraightFill recording.now i len space) }
 {
     if !has(recording, 1, 1) {
@@ -115,8 +113,7 @@ fn fill(t: Transfer, i: u16, last: bool, bytes: &[u8], recording: &mut Recording
 // without a byte leaves both loops: the operation waits for its STOP, or is done.
 fn run(t: Transfer, from: u16, bytes: &[u8], recording: &mut Recording) -> Option<Point>
     requires { (from ≤ t.operation.len)
-        × (t.operation.at + t.operation.len ≤ length bytes.now + 1)
-        × (recording.old.entries ≤ room_of recording.old) }
+        × (t.operation.at + t.operation.len ≤ length bytes.now + 1) }
     ensures { Leads t bytes.now recording.old (go (WriteAsync (Free from))) recording.new (Ok result) }
 {
     let len = t.operation.len;
@@ -143,7 +140,6 @@ fn run(t: Transfer, from: u16, bytes: &[u8], recording: &mut Recording) -> Optio
 // The rounds from a byte on, or from past the last one, where the bytes are within the buffer,
 // and where they lead.
 pub fn burst(t: Transfer, from: u16, bytes: &[u8], recording: &mut Recording) -> Option<Point>
-    requires { recording.old.entries ≤ room_of recording.old }
     ensures { Leads t bytes.now recording.old (go (WriteAsync (Free from))) recording.new (Ok result) }
 {
     if from <= t.operation.len && is_within(0, t.operation.len, t.operation.at, bytes.len()) {

@@ -1,9 +1,8 @@
 // A master transfer driven to its end over recorded readings: its steps, one after the other.
 #![tactic(auto)]
 
-ghost use Rattle.std.specs.Prelude.{◌≡◌, ◌/◌, ◌≤◌, length};
+ghost use Rattle.std.specs.Prelude.{◌≡◌, ◌/◌, length};
 ghost use Rattle.regs.specs.Inner.Machine.{final, ran};
-ghost use Rattle.regs.specs.Inner.Recording.{room_of};
 ghost use Rattle.transfer.specs.Inner.Machine.{machine};
 ghost use Rattle.transfer_run.specs.Inner.Steps.{Steps};
 
@@ -21,7 +20,6 @@ fn step(
     recording: &mut Recording,
     buffer: &mut [u8],
 ) -> Result<Transfer, Reply>
-    requires { recording.old.entries ≤ room_of recording.old }
     ensures { Steps coded kinds.now lengths.now bytes.now t recording.old buffer.old
         recording.new buffer.new result }
 {

@@ -8,7 +8,7 @@ module _ (M : Machine) (readings : List ℕ) where
   pub record Reaches (s₀ : M.S) (e₀ u₀ : ℕ) (l₀ b₀ : List ℕ) (s : M.S) (e u : ℕ) (l b : List ℕ) : Type 0 where
     pub same : ran M readings (length l₀ / 2 - e) s e u l b ≡ ran M readings (length l₀ / 2 - e₀) s₀ e₀ u₀ l₀ b₀
     pub up : e₀ ≤ e
-    pub room : e ≤ length l₀ / 2
+    pub room : e₀ ≤ length l₀ / 2 → e ≤ length l₀ / 2
     pub long : length l ≡ length l₀
     pub wide : length b ≡ length b₀
     pub fits : length l₀ < 2 ^ 64

@@ -21,7 +21,7 @@ ForAny {A} f = (a : A) → f a
 
 pub record Drains (from : Message) (before : Recording) (b : List ℕ) (to : Message) (after : Recording) (b' : List ℕ) : Type 0 where
   pub keeps : Keeps before after
-  pub room : after.entries ≤ room_of after
+  pub room : before.entries ≤ room_of before → after.entries ≤ room_of after
   pub up : before.entries ≤ after.entries
   pub places : to.places ≡ from.places
   pub reaches : (bytes : List ℕ) (me : SlaveState) → me.pending_byte ≡ None
@@ -42,7 +42,7 @@ straight_poll stat status filled = not (rfne status) && (not (rd_req stat) && (n
 pub record Responds (count : ℕ) (bytes : List ℕ) (p : RespondPoint) (before : Recording) (p' : RespondPoint)
     (after : Recording) : Type 0 where
   pub keeps : Keeps before after
-  pub room : after.entries ≤ room_of after
+  pub room : before.entries ≤ room_of before → after.entries ≤ room_of after
   pub reaches : (me : SlaveState) (job : Job) (b : List ℕ) → count_of job count ≡ count → ((i : ℕ) → byte_at job bytes i ≡ get_or bytes i 0)
       → Reaches (machine bytes) before.readings.now (slave me count (Responding (response job p)))
       before.entries before.used before.log.now b

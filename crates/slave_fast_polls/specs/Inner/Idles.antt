@@ -18,7 +18,7 @@ idle_poll stat = not (tx_abrt stat) && (not (rx_done stat) && not (rd_req stat &
 
 pub record Idles (before after : Recording) : Type 0 where
   pub keeps : Keeps before after
-  pub room : after.entries ≤ room_of after
+  pub room : before.entries ≤ room_of before → after.entries ≤ room_of after
   pub reaches : (bytes : List ℕ) (me : SlaveState) (job : Job) (count i : ℕ) (b : List ℕ) → count_of job count ≤ i
       → Reaches (machine bytes) before.readings.now (slave me count (Responding (response job (Respond.RawIntrStat i))))
       before.entries before.used before.log.now b
@@ -30,7 +30,7 @@ idle_listen stat filled = not (rd_req stat) && (not (stop_det stat) && eqb (leve
 
 pub record Awaits (before after : Recording) : Type 0 where
   pub keeps : Keeps before after
-  pub room : after.entries ≤ room_of after
+  pub room : before.entries ≤ room_of before → after.entries ≤ room_of after
   pub reaches : (bytes : List ℕ) (me : SlaveState) (places i : ℕ) (b : List ℕ) → me.pending_byte ≡ None → i < places
       → Reaches (machine bytes) before.readings.now (slave me places (Listening (Listen.RawIntrStat i)))
       before.entries before.used before.log.now b

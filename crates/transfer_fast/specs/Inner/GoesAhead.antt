@@ -10,7 +10,7 @@ use Rattle.regs_runs.specs.Inner.Reaches.{Reaches}
 pub record GoesAhead (t : Transfer) (bytes : List ℕ) (before : Recording) (b : List ℕ) (after : Recording) (b' : List ℕ)
     (reached : Option Point) : Type 0 where
   pub keeps : Keeps before after
-  pub room : after.entries ≤ room_of after
+  pub room : before.entries ≤ room_of before → after.entries ≤ room_of after
   pub reaches : (coded : Bool) (kinds lengths : List ℕ)
       → Reaches (machine coded kinds lengths bytes) before.readings.now t before.entries before.used before.log.now b
       (moved_to coded kinds lengths t (Ok reached)) after.entries after.used after.log.now b'

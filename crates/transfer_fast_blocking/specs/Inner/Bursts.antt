@@ -14,7 +14,7 @@ use Rattle.regs_runs.specs.Inner.Reaches.{Reaches}
 pub record Bursts (t : Transfer) (bytes : List ℕ) (before : Recording) (b : List ℕ) (p : Point)
     (after : Recording) (b' : List ℕ) (p' : Point) : Type 0 where
   pub keeps : Keeps before after
-  pub room : after.entries ≤ room_of after
+  pub room : before.entries ≤ room_of before → after.entries ≤ room_of after
   pub size : length b' ≡ length b
   pub reaches : (coded : Bool) (kinds lengths : List ℕ)
       → Reaches (machine coded kinds lengths bytes) before.readings.now (with_point t p) before.entries before.used

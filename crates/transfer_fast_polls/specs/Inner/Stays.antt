@@ -17,7 +17,7 @@ use Rattle.regs_runs.specs.Inner.Reaches.{Reaches}
 -- whatever the transfer is
 pub record Stays (p : Point) (before after : Recording) : Type 0 where
   pub keeps : Keeps before after
-  pub room : after.entries ≤ room_of after
+  pub room : before.entries ≤ room_of before → after.entries ≤ room_of after
   pub reaches : (coded : Bool) (kinds lengths bytes : List ℕ) (t : Transfer) (b : List ℕ)
       → Reaches (machine coded kinds lengths bytes) before.readings.now (with_point t p) before.entries before.used
       before.log.now b (with_point t p) after.entries after.used after.log.now b

@@ -14,10 +14,8 @@ pub loop-plan-smaller : goal.loop-plan-smaller
 loop-plan-smaller c =
     let g = c.one_round-round.ensures.bursts [] in
     let h = c.loop-plan.invariant.came [] in
-    omega (arith, c.one_round-round.ensures.more, g.room, g.keeps.size, h.keeps.size)
-
-pub planned-requires : goal.planned-requires
-planned-requires c = (c.loop-plan.invariant.came []).room
+    let grew = c.one_round-round.ensures.more in
+    omega (arith, grew.0, grew.1, g.keeps.size, h.keeps.size)
 
 pub returns : goal.returns
 returns c = c.loop-plan.invariant.came

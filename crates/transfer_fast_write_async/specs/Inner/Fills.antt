@@ -25,7 +25,7 @@ pub record StraightFill (r : Recording) (i len space : ℕ) : Type 0 where
 -- accesses of a transfer lead from where one step goes to where another does; the read buffer is not touched
 pub record Leads (t : Transfer) (bytes : List ℕ) (before : Recording) (s : StepTaken) (after : Recording) (s' : StepTaken) : Type 0 where
   pub keeps : Keeps before after
-  pub room : after.entries ≤ room_of after
+  pub room : before.entries ≤ room_of before → after.entries ≤ room_of after
   pub reaches : (coded : Bool) (kinds lengths b : List ℕ)
       → Reaches (machine coded kinds lengths bytes) before.readings.now (moved_to coded kinds lengths t s) before.entries
       before.used before.log.now b (moved_to coded kinds lengths t s') after.entries after.used after.log.now b

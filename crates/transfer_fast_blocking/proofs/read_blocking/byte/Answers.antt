@@ -30,6 +30,6 @@ returns-then-is_straight-clause-taken c = λ is bytes.
     more.1 (simp length-set)
     (λ coded kinds lengths. rw (c.byte_of.ensures, c.from.ensures)
     (byte_read coded kinds lengths bytes t
-    (stays (machine coded kinds lengths bytes) r.readings.now c.requires.2 (omega arith)) more.1 more.0
+    (stays (machine coded kinds lengths bytes) r.readings.now (omega arith)) more.1 more.0
     (ltb-true (level room) 16 both.0) (eqb-false (level filled) 0 (not-true (eqb (level filled) 0) both.1))
     c.requires.0 place))

@@ -6,7 +6,7 @@ use Rattle.transfer_fast_blocking.proofs.read_blocking.run.Goals as goal
 pub byte-requires : goal.byte-requires
 byte-requires c =
     let g = c.loop-i.invariant [] in
-    (omega (arith, c.loop-i-test.true), rw g.size c.requires.1, g.room)
+    (omega (arith, c.loop-i-test.true), rw g.size c.requires.1)
 
 pub returns-then-not-byte : goal.returns-then-not-byte
 returns-then-not-byte c = λ bytes. burst_after (c.loop-i.invariant bytes) (c.byte.ensures.left c.if-not-byte.true bytes)

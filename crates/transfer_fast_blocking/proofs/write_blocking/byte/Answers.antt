@@ -27,5 +27,5 @@ returns-then-is_straight-clause-sent c = λ is buffer.
     burst_put 2 (next_put (next_put (first_put write) c.put_read.ensures) c.put_read-then-is_straight.ensures)
     more.1 refl
     (λ coded kinds lengths. byte_written coded kinds lengths c.args.bytes.now t
-    (stays (machine coded kinds lengths c.args.bytes.now) r.readings.now c.requires.2 (omega arith)) more.1 more.0
+    (stays (machine coded kinds lengths c.args.bytes.now) r.readings.now (omega arith)) more.1 more.0
     both.0 (eqb-true source 0 both.1) c.requires.0)

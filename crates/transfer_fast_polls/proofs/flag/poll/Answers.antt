@@ -17,5 +17,5 @@ returns-then-not-is_set-clause-stays c = λ p at.
     let unset : flag_set c.args.stop (get_or r.readings.now r.used 0) ≡ false = search rules in
     polled 1 (first_put c.put_read.ensures) more.1 (λ coded kinds lengths bytes t b.
     poll_unset coded kinds lengths bytes t
-    (stays (machine coded kinds lengths bytes) r.readings.now c.requires (omega arith)) at unset
+    (stays (machine coded kinds lengths bytes) r.readings.now (omega arith)) at unset
     (omega (arith, more.1)) (omega (arith, more.0)))

@@ -17,4 +17,4 @@ returns-then-is_empty-clause-stays c = λ i.
     let empty : no_byte (get_or r.readings.now r.used 0) (get_or r.readings.now (r.used + 1) 0) ≡ true = search rules in
     polled 2 (next_put (first_put c.put_read.ensures) c.put_read-then-is_empty.ensures) more.1
     (λ coded kinds lengths bytes t b. poll_empty coded kinds lengths bytes t
-    (stays (machine coded kinds lengths bytes) r.readings.now c.requires (omega arith)) empty more.1 more.0)
+    (stays (machine coded kinds lengths bytes) r.readings.now (omega arith)) empty more.1 more.0)

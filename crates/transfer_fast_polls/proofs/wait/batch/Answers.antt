@@ -20,4 +20,4 @@ returns-then-is_too_few-clause-stays c = λ x is.
     (wait_put _ _ (next_put (next_put (first_put c.put_read.ensures) c.put_read-then-is_too_few.ensures) write)
     (rw (c.with_m_tx_abrt.ensures, c.with_m_rx_full.ensures) at c.put_wait.ensures)) more.1
     (λ coded kinds lengths bytes t b. batch_waits coded kinds lengths bytes t
-    (stays (machine coded kinds lengths bytes) r.readings.now c.requires (omega arith)) few more.1 more.0)
+    (stays (machine coded kinds lengths bytes) r.readings.now (omega arith)) few more.1 more.0)

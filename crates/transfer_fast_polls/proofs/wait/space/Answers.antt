@@ -19,4 +19,4 @@ returns-then-is_full-clause-stays c = λ i.
     (wait_put _ _ (next_put (next_put (first_put c.put_read.ensures) c.put_read-then-is_full.ensures) c.put_write.ensures)
     (rw (c.with_m_tx_abrt.ensures, c.with_m_tx_empty.ensures) at c.put_wait.ensures)) more.1
     (λ coded kinds lengths bytes t b. space_waits coded kinds lengths bytes t
-    (stays (machine coded kinds lengths bytes) r.readings.now c.requires (omega arith)) full more.1 more.0)
+    (stays (machine coded kinds lengths bytes) r.readings.now (omega arith)) full more.1 more.0)

@@ -19,4 +19,4 @@ returns-then-is_going-clause-stays c =
     (wait_put _ _ (next_put (first_put c.put_read.ensures) c.put_read-then-is_going.ensures)
     (rw (c.with_m_tx_abrt.ensures, c.with_m_stop_det.ensures) at c.put_wait.ensures)) more.1
     (λ coded kinds lengths bytes t b. stop_waits coded kinds lengths bytes t
-    (stays (machine coded kinds lengths bytes) r.readings.now c.requires (omega arith)) going more.1 more.0)
+    (stays (machine coded kinds lengths bytes) r.readings.now (omega arith)) going more.1 more.0)
