@@ -16,12 +16,12 @@ use Rattle.regs.specs.Fields.{stop}
 use Rattle.regs.specs.Log.{entry, decode, written_to}
 use Rattle.regs.proofs.RoundTrip.{decode_next, decode_end}
 use Rattle.bus.specs.declared.Direction.{Direction}
+use Rattle.bus.specs.declared.Sign.{Sign}
 use Rattle.bus.specs.declared.Bus.{Bus}
 use Rattle.bus.specs.declared.Bus.TheVariants.{Idle}
 use Rattle.bus.specs.declared.Condition.{Condition}
 use Rattle.bus.specs.declared.Condition.TheVariants.{Start, Restart}
-use Rattle.bus.specs.Bus.{Sign, after, direction_of, opening_of, opening, byte_sign, closing, signs_of, signs}
-use Rattle.bus.specs.Bus.{sign_word, sign_words}
+use Rattle.bus.specs.Bus.{after, direction_of, opening_of, opening, byte_sign, closing, signs_of, signs}
 use Rattle.bus.specs.Placed.{written_by, Puts}
 
 -- ---- the log
@@ -74,12 +74,12 @@ first_none r log k h = rw (later_end r log k h)
 
 -- ---- the sequence
 
-sets_words : (xs ys : List Sign) (l : List ℕ) (at : ℕ)
-    → sets l at (sign_words (xs ++ ys)) ≡ sets (sets l at (sign_words xs)) (at + length xs) (sign_words ys)
+sets_words : (xs ys : List Sign) (l : List Sign) (at : ℕ)
+    → sets l at (xs ++ ys) ≡ sets (sets l at xs) (at + length xs) ys
 sets_words [] ys l at = rw (add-zero at)
 sets_words (x ∷ xs) ys l at =
     let e : at + suc (length xs) ≡ suc at + length xs = omega arith in
-    rw e (sets_words xs ys (set l at (sign_word x)) (suc at))
+    rw e (sets_words xs ys (set l at x) (suc at))
 
 opening_short : (o : Option Condition) (address : ℕ) (d : Direction) → length (opening o address d) ≤ 2
 opening_short None address d = omega arith
@@ -106,13 +106,13 @@ unfolding signs
 signs_next bus address w words = refl
 
 -- what holds at the head of the loop over the entries of a log
-pub record Putting (log out₀ : List ℕ) (address : ℕ) (out : List ℕ) (bus : Bus) (at k : ℕ) : Type 0 where
-  pub same : sets out at (sign_words (signs bus address (later DATA_CMD log k)))
-      ≡ sets out₀ 0 (sign_words (signs Idle address (later DATA_CMD log 0)))
+pub record Putting (log : List ℕ) (out₀ : List Sign) (address : ℕ) (out : List Sign) (bus : Bus) (at k : ℕ) : Type 0 where
+  pub same : sets out at (signs bus address (later DATA_CMD log k))
+      ≡ sets out₀ 0 (signs Idle address (later DATA_CMD log 0))
   pub count : at + length (signs bus address (later DATA_CMD log k)) ≡ length (signs Idle address (later DATA_CMD log 0))
   pub few : at ≤ k * 4
 
-module _ {log out₀ : List ℕ} {address : ℕ} {out : List ℕ} {bus : Bus} {at k : ℕ} (i : Putting log out₀ address out bus at k) where
+module _ {log : List ℕ} {out₀ : List Sign} {address : ℕ} {out : List Sign} {bus : Bus} {at k : ℕ} (i : Putting log out₀ address out bus at k) where
   -- over an entry that writes no word
   pub passed : {x : Option ℕ}
       → k < length log / 2
@@ -124,7 +124,7 @@ module _ {log out₀ : List ℕ} {address : ℕ} {out : List ℕ} {bus : Bus} {a
       record { same = rw (← now) i.same; count = rw (← now) i.count; few = omega (arith, i.few) }
 
   -- and over one that writes the word w
-  pub put_on : {x : Option ℕ} {w : ℕ} {out' : List ℕ} {bus' : Bus} {at' : ℕ}
+  pub put_on : {x : Option ℕ} {w : ℕ} {out' : List Sign} {bus' : Bus} {at' : ℕ}
       → k < length log / 2
       → x ≡ written_by DATA_CMD (entry (get_or log (k * 2) 0) (get_or log (k * 2 + 1) 0))
       → x ≡ Some w
@@ -144,7 +144,7 @@ module _ {log out₀ : List ℕ} {address : ℕ} {out : List ℕ} {bus : Bus} {a
 
   pub all_put : length log / 2 ≤ k
       → (at ≡ length (signs Idle address (later DATA_CMD log 0)))
-      × (out ≡ sets out₀ 0 (sign_words (signs Idle address (later DATA_CMD log 0))))
+      × (out ≡ sets out₀ 0 (signs Idle address (later DATA_CMD log 0)))
   unfolding signs
   all_put h =
       let e : later DATA_CMD log k ≡ [] = later_end DATA_CMD log k h in

@@ -4,7 +4,8 @@ use Rattle.std.proofs.lemmas.List.Edits.{sets}
 use Rattle.regs.specs.declared.access.Entry.{Entry}
 use Rattle.regs.specs.declared.access.Entry.TheVariants.{Read, Write, Marked}
 use Rattle.bus.specs.declared.Bus.{Bus}
-use Rattle.bus.specs.Bus.{Sign, sign_words, after, signs_of}
+use Rattle.bus.specs.declared.Sign.{Sign}
+use Rattle.bus.specs.Bus.{after, signs_of}
 
 -- what an entry writes to a register
 abbrev pub written_by : ℕ → Entry → Option ℕ
@@ -21,6 +22,6 @@ moved bus None = bus
 moved bus (Some w) = after w
 
 -- the buffer with signs put into it from a place on, those past its end left out, and the place after the last
-pub record Puts (before : List ℕ) (at : ℕ) (ss : List Sign) (after : List ℕ) (end : ℕ) : Type 0 where
-  pub places : after ≡ sets before at (sign_words ss)
+pub record Puts (before : List Sign) (at : ℕ) (ss : List Sign) (after : List Sign) (end : ℕ) : Type 0 where
+  pub places : after ≡ sets before at ss
   pub next : end ≡ at + length ss

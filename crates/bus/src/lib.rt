@@ -8,12 +8,23 @@ ghost use Rattle.regs.specs.Fields.{restart, address_field};
 ghost use Rattle.regs.specs.Log.{entry, decode, written_to};
 ghost use Rattle.regs.specs.Registers.{TAR};
 ghost use Rattle.bus.specs.Bus.{direction_of, direction_bit, same, opening_of, opening, byte_sign};
-ghost use Rattle.bus.specs.Bus.{closing, after, signs_of, bus_sequence, sign_word};
-ghost use Rattle.bus.specs.Bus.{sign_words, condition_word};
+ghost use Rattle.bus.specs.Bus.{closing, after, signs_of, bus_sequence, condition_sign};
 ghost use Rattle.bus.specs.Placed.{written_by, Puts};
 
 use regs::access::{Entry, entry_of};
 use regs::fields::{address_of, byte_of, has_restart, has_stop, is_read};
+
+// What is seen on the bus: a condition, an address byte with the direction in bit 0, a byte that the
+// master writes, or the place of one that it reads. A 10-bit address makes more than a byte.
+#[derive(Clone, Copy, PartialEq, Eq)]
+pub enum Sign {
+    Start,
+    Restart,
+    Stop,
+    Address(u16),
+    Written(u8),
+    ReadSlot,
+}
 
 // The direction of a byte on the bus.
 #[derive(Clone, Copy, PartialEq, Eq)]
@@ -48,26 +59,12 @@ pub struct Applied {
 // of the buffer is left out.
 #[derive(Drop)]
 struct SequenceBuffer<'a> {
-    places: &'a mut [u32],
+    places: &'a mut [Sign],
     at: usize,
 }
 
-// How the entries of a sequence stand in a buffer: a kind in the
-// upper half of a word, and the byte of those that have one.
-pub const START: u32 = 0x10000;
-
-pub const RESTART: u32 = 0x20000;
-
-pub const STOP: u32 = 0x30000;
-
-pub const ADDRESS: u32 = 0x40000;
-
-pub const WRITTEN: u32 = 0x50000;
-
-pub const READ_SLOT: u32 = 0x60000;
-
 impl Direction {
-    // No From: a word has a direction beside much else, so a conversion would say less than this name does.
+    // This stays a method, not a From: a word is much else than its direction, which `of` names.
     fn of(w: u32) -> Direction
         ensures { result ≡ direction_of w }
     {
@@ -78,11 +75,12 @@ impl Direction {
         }
     }
 
-    fn bit(self) -> u32
+    // This stays a method, not a From: it names the bit of the address byte that holds the direction.
+    fn bit(self) -> u16
         ensures value { result ≡ direction_bit self }
         ensures bit { result < 2 }
     {
-        self as u32
+        self as u16
     }
 
     // Whether a word goes on in this direction, with nothing before its byte.
@@ -104,23 +102,23 @@ impl Direction {
     }
 
     // A word's byte, or its read slot, as it stands in a sequence.
-    fn byte(self, w: u32) -> u32
-        ensures { result ≡ sign_word (byte_sign self w) }
+    fn byte(self, w: u32) -> Sign
+        ensures { result ≡ byte_sign self w }
     {
         match self {
-            Direction::Writing => WRITTEN + u32::from(byte_of(w)),
-            Direction::Reading => READ_SLOT,
+            Direction::Writing => Sign::Written(byte_of(w)),
+            Direction::Reading => Sign::ReadSlot,
         }
     }
 }
 
-impl Condition {
-    fn word(self) -> u32
-        ensures { result ≡ condition_word self }
-    {
-        match self {
-            Condition::Start => START,
-            Condition::Restart => RESTART,
+impl From<Condition> for Sign {
+    ghost from_gives = { λ condition sign. sign ≡ condition_sign condition };
+
+    fn from(condition: Condition) -> Sign {
+        match condition {
+            Condition::Start => Sign::Start,
+            Condition::Restart => Sign::Restart,
         }
     }
 }
@@ -164,20 +162,21 @@ impl Bus {
 }
 
 impl SequenceBuffer<'_> {
-    fn put(&mut self, word: u32)
+    // Each clause on the room stays: no ghost field says it, since it is of the signs that are put here.
+    fn put(&mut self, sign: Sign)
         requires { self.old.at + 1 < 2 ^ 64 }
         ensures same_reference { self.new.places.ghost_name ≡ self.old.places.ghost_name }
-        ensures place { self.new.places.now ≡ set self.old.places.now self.old.at word }
+        ensures place { self.new.places.now ≡ set self.old.places.now self.old.at sign }
         ensures next { self.new.at ≡ self.old.at + 1 }
     {
         if self.at < self.places.len() {
-            self.places[self.at] = word;
+            self.places[self.at] = sign;
         }
         self.at += 1;
     }
 
     // START or RESTART and the address byte, where a condition stands before a word's byte.
-    fn put_opening(&mut self, condition: Option<Condition>, address: u32, d: Direction)
+    fn put_opening(&mut self, condition: Option<Condition>, address: u16, d: Direction)
         requires address { address < 1024 }
         requires room { self.old.at + 2 < 2 ^ 64 }
         ensures same_reference { self.new.places.ghost_name ≡ self.old.places.ghost_name }
@@ -185,8 +184,8 @@ impl SequenceBuffer<'_> {
             self.new.places.now self.new.at }
     {
         if let Some(first) = condition {
-            self.put(first.word());
-            self.put(ADDRESS + (address * 2 + d.bit()));
+            self.put(Sign::from(first));
+            self.put(Sign::Address(address * 2 + d.bit()));
         }
     }
 
@@ -197,12 +196,12 @@ impl SequenceBuffer<'_> {
             self.new.places.now self.new.at }
     {
         if last {
-            self.put(STOP);
+            self.put(Sign::Stop);
         }
     }
 
     // Puts what a word makes of the bus, and hands back the bus that it leaves.
-    fn put_word(&mut self, bus: Bus, address: u32, w: u32) -> Bus
+    fn put_word(&mut self, bus: Bus, address: u16, w: u32) -> Bus
         requires address { address < 1024 }
         requires room { self.old.at + 4 < 2 ^ 64 }
         ensures same_reference { self.new.places.ghost_name ≡ self.old.places.ghost_name }
@@ -231,7 +230,8 @@ fn written_at(log: &[u32], k: usize, register: u8) -> Option<u32>
     }
 }
 
-// The address that a log writes to TAR, 0 where it writes none.
+// The address that a log writes to TAR. It stays a number, 0 where the log writes none: every log has a
+// sequence, and its words are sent to some address.
 pub fn address_in(log: &[u32]) -> u32
     ensures { result ≡ address_field (get_or (written_to TAR (decode log.now)) 0 0) }
 {
@@ -245,12 +245,11 @@ pub fn address_in(log: &[u32]) -> u32
 
 // Writes the bus sequence of a log into a buffer, and says how
 // many places it takes: those past the buffer's end are left out.
-pub fn bus_sequence(log: &[u32], out: &mut [u32]) -> usize
+pub fn bus_sequence(log: &[u32], out: &mut [Sign]) -> usize
     ensures { (result ≡ length (bus_sequence (decode log.now)))
-        × (out.new ≡ sets out.old 0
-        (sign_words (bus_sequence (decode log.now)))) }
+        × (out.new ≡ sets out.old 0 (bus_sequence (decode log.now))) }
 {
-    let address = address_in(log);
+    let address = address_in(log) as u16;
     let mut sequence = SequenceBuffer { places: out, at: 0 };
     let mut bus = Bus::new();
     for k in 0..log.len() / 2 {

@@ -12,6 +12,7 @@ ghost use Rattle.text_stdin.specs.Reads.{is_ended_at};
 ghost use Rattle.answer_lines.specs.Lines.{LOG_WORDS};
 ghost use Rattle.svg_lines.specs.Inner.Said.{PLACES, PICTURE_ROOM, last_warning};
 
+use bus::Sign;
 use std::io::Print;
 use svg_lines::Kept;
 use text_stdin::next_line;
@@ -41,7 +42,7 @@ fn draw_all(
     chunk: &mut [u8],
     line: &mut [u8],
     log: &mut [u32],
-    places: &mut [u32],
+    places: &mut [Sign],
     out: &mut [u8],
 ) -> Stopped
     requires { (length line.old ≡ 8195)
@@ -87,7 +88,7 @@ fn main(rt: HostRuntime) {
     let mut chunk = [0u8; 65536];
     let mut line = [0u8; 8195];
     let mut log = [0u32; 16384];
-    let mut places = [0u32; 32768];
+    let mut places = [Sign::Stop; 32768];
     let mut out = [0u8; 53000];
     let s = draw_all(rt, &mut chunk, &mut line, &mut log, &mut places, &mut out);
     let made = finish(s.kept, s.end, &mut out);

@@ -11,6 +11,7 @@ ghost use Rattle.answer_lines.specs.Lines.{LOG_WORDS};
 ghost use Rattle.explain_lines.specs.Printed.{LINE_ROOM};
 ghost use Rattle.explain_lines.specs.Inner.Said.{PLACES, BUS_ROOM};
 
+use bus::Sign;
 use std::io::Print;
 use text_stdin::next_line;
 use text_stdin::reads::End;
@@ -23,7 +24,7 @@ fn explain_all(
     chunk: &mut [u8],
     line: &mut [u8],
     log: &mut [u32],
-    places: &mut [u32],
+    places: &mut [Sign],
     out: &mut [u8],
 ) -> Result<End, std::io::Error>
     requires { (length line.old ≡ 8195)
@@ -49,7 +50,7 @@ fn main(rt: HostRuntime) {
     let mut chunk = [0u8; 65536];
     let mut line = [0u8; 8195];
     let mut log = [0u32; 16384];
-    let mut places = [0u32; 32768];
+    let mut places = [Sign::Stop; 32768];
     let mut out = [0u8; 311821];
     match explain_all(rt, &mut chunk, &mut line, &mut log, &mut places, &mut out) {
         Ok(end) => unread(rt, b"explain", end),

@@ -10,8 +10,10 @@ use Rattle.bus.specs.declared.Bus.{Bus}
 use Rattle.std.specs.Prelude.{Option, Some, None}
 use Rattle.bus.specs.declared.Condition.{Condition}
 use Rattle.bus.specs.declared.Condition.TheVariants.{Start, Restart}
-use Rattle.bus.specs.Bus.{Sign, direction_bit, opening_of, opening, byte_sign, closing, signs_of}
-use Rattle.explain_bus.specs.Line.{name_text, address_text, run_text, signs_text}
+use Rattle.bus.specs.declared.Sign.{Sign}
+use Rattle.bus.specs.declared.Sign.TheVariants as S
+use Rattle.bus.specs.Bus.{direction_bit, opening_of, opening, byte_sign, closing, signs_of}
+use Rattle.explain_bus.specs.Line.{address_text, run_text, sign_text, signs_text}
 use Rattle.explain_beside.specs.Inner.Parts.{towards, direction_letter_of, addressed_text, opening_text, data_text, closing_text}
 
 -- the digits and the letter of an address byte
@@ -31,14 +33,14 @@ front : (o : Option Condition) (address : ℕ) (read : Bool) (ss : List Sign)
     → opening_text o address read ++ signs_text 0 ss ≡ signs_text 0 (opening o address (towards read) ++ ss)
 unfolding opening_text addressed_text signs_text run_text
 front None address read ss = refl
-front (Some Start) address read ss = append_assoc (name_text 0) (address_text (address * 2 + direction_bit (towards read))) (signs_text 0 ss)
-front (Some Restart) address read ss = append_assoc (name_text 1) (address_text (address * 2 + direction_bit (towards read))) (signs_text 0 ss)
+front (Some Start) address read ss = append_assoc (sign_text S.Start) (address_text (address * 2 + direction_bit (towards read))) (signs_text 0 ss)
+front (Some Restart) address read ss = append_assoc (sign_text S.Restart) (address_text (address * 2 + direction_bit (towards read))) (signs_text 0 ss)
 
 back : (read last : Bool) (w : ℕ) → data_text read w ++ closing_text last ≡ signs_text 0 (byte_sign (towards read) w ∷ closing last)
 unfolding signs_text run_text
-back true true w = ap (λ (l : List ℕ). data_text true w ++ l) (sym (append-nil (name_text 2)))
+back true true w = ap (λ (l : List ℕ). data_text true w ++ l) (sym (append-nil (sign_text S.Stop)))
 back true false w = append-nil (data_text true w)
-back false true w = ap (λ (l : List ℕ). data_text false w ++ l) (sym (append-nil (name_text 2)))
+back false true w = ap (λ (l : List ℕ). data_text false w ++ l) (sym (append-nil (sign_text S.Stop)))
 back false false w = refl
 
 pub piece_is : (bus : Bus) (address w : ℕ)

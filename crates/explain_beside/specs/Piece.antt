@@ -3,7 +3,8 @@ use Rattle.std.specs.Prelude.{ℕ, ◌+◌, ◌-◌, ◌%◌, List, [], ◌∷�
 use Rattle.regs.specs.Registers.{TAR, DATA_CMD}
 use Rattle.regs.specs.Fields.{address_field}
 use Rattle.bus.specs.declared.Bus.TheVariants.{Idle}
-use Rattle.bus.specs.Bus.{Sign, signs_of}
+use Rattle.bus.specs.declared.Sign.{Sign}
+use Rattle.bus.specs.Bus.{signs_of}
 use Rattle.bus.specs.Placed.{made, moved}
 use Rattle.text_hex.specs.Text.{LF}
 use Rattle.answer_frames.specs.declared.Frame.{Frame}

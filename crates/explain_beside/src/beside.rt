@@ -7,22 +7,14 @@ ghost use Rattle.bus.specs.Bus.{signs_of};
 ghost use Rattle.explain_bus.specs.Line.{signs_text};
 ghost use Rattle.explain_beside.specs.Piece.{bus_head, word_line, told_of, told};
 ghost use Rattle.explain_beside.specs.Inner.Parts.{addressed_text, opening_text};
-ghost use Rattle.explain_beside.specs.Inner.Parts.{condition_row, data_text, closing_text};
+ghost use Rattle.explain_beside.specs.Inner.Parts.{data_text, closing_text};
 
 use super::transfer::{Transfer, written};
-use bus::Condition;
-use explain_bus::line::{letter, push_byte, push_name, push_run};
+use bus::{Condition, Sign};
+use explain_bus::line::{letter, push_byte, push_run, push_sign};
 use explain_frames::{explain, push_words};
 use regs::fields::{byte_of, has_stop, is_read};
 use text_hex::text::Text;
-
-// The row of a condition's name.
-fn row_of(condition: Condition) -> usize
-    ensures row { result ≡ condition_row condition }
-    ensures in_table { result < 3 }
-{
-    condition as usize
-}
 
 // START or RESTART, and the address with its direction. That stays the bool which `is_read` and
 // `letter` know: a Direction would be made of it, and turned back for the letter.
@@ -30,7 +22,7 @@ fn push_addressed(text: &mut Text, condition: Condition, address: u32, read: boo
     requires { Room 13 text.old }
     ensures { Added text.old (addressed_text condition address read) 13 text.new }
 {
-    push_name(text, row_of(condition));
+    push_sign(text, Sign::from(condition));
     text.push(b' ');
     text.push_hex2(address);
     text.push(letter(read));
@@ -65,7 +57,7 @@ fn push_closing(text: &mut Text, last: bool)
     ensures { Added text.old (closing_text last) 9 text.new }
 {
     if last {
-        push_name(text, 2);
+        push_sign(text, Sign::Stop);
     }
 }
 

@@ -2,10 +2,12 @@
 use Rattle.std.specs.Prelude.{ℕ, ◌+◌, ◌-◌, ◌/◌, ◌%◌, List, [], ◌∷◌, ◌++◌, eqb, ltb, length, if◌then◌else◌, Option, Some}
 use Rattle.regs.specs.Registers.{TAR}
 use Rattle.regs.specs.Log.{decode}
-use Rattle.bus.specs.Bus.{Sign, START, RESTART, STOP, address_byte, written, read_slot, bus_sequence}
+use Rattle.bus.specs.declared.Sign.{Sign}
+use Rattle.bus.specs.declared.Sign.TheVariants.{Start, Restart, Stop, Address, Written, ReadSlot}
+use Rattle.bus.specs.Bus.{bus_sequence}
 use Rattle.text_hex.specs.Text.{LF, hex2}
 use Rattle.text_tables.specs.Decimal.{digits}
-use Rattle.text_tables.specs.Rows.{cell}
+use Rattle.text_tables.specs.Ascii.{ascii}
 use Rattle.answer_frames.specs.Frames.{frame_of}
 use Rattle.answer_frames.specs.declared.Frame.{Frame}
 use Rattle.answer_frames.specs.declared.Frame.TheVariants.{Write}
@@ -20,17 +22,6 @@ kept_of used _ = []
 -- where there is room for them
 unfoldable pub kept : List ℕ → ℕ → ℕ → List ℕ
 kept line used room = if ltb room 2 then [] else (if ltb (room - 2) used then [] else kept_of used (frame_of line))
-
--- START, RESTART and STOP, 9 bytes each: a text ends at the first dot of its row
-unfoldable pub signs_table : List ℕ
-signs_table =
-    32 ∷ 83 ∷ 84 ∷ 65 ∷ 82 ∷ 84 ∷ 46 ∷ 46 ∷ 46
-    ∷ 32 ∷ 82 ∷ 69 ∷ 83 ∷ 84 ∷ 65 ∷ 82 ∷ 84 ∷ 46
-    ∷ 32 ∷ 83 ∷ 84 ∷ 79 ∷ 80 ∷ 46 ∷ 46 ∷ 46 ∷ 46
-    ∷ []
-
-abbrev pub name_text : ℕ → List ℕ
-name_text row = cell signs_table 9 row
 
 -- `w` or `r`
 abbrev pub direction_letter : ℕ → ℕ
@@ -47,15 +38,24 @@ byte_text b = (32 ∷ []) ++ hex2 b
 unfoldable pub run_text : ℕ → List ℕ
 run_text n = if eqb n 0 then [] else (32 ∷ []) ++ ((91 ∷ []) ++ (digits 5 n ++ (93 ∷ [])))
 
+-- a sign alone
+abbrev pub sign_text : Sign → List ℕ
+sign_text Start = ascii " START"
+sign_text Restart = ascii " RESTART"
+sign_text Stop = ascii " STOP"
+sign_text (Address b) = address_text b
+sign_text (Written b) = byte_text b
+sign_text ReadSlot = run_text 1
+
 -- the text of a sequence behind n read slots: another sign, or the end, closes their run
 unfoldable pub signs_text : ℕ → List Sign → List ℕ
 signs_text n [] = run_text n
-signs_text n (read_slot ∷ ss) = signs_text (n + 1) ss
-signs_text n (START ∷ ss) = run_text n ++ (name_text 0 ++ signs_text 0 ss)
-signs_text n (RESTART ∷ ss) = run_text n ++ (name_text 1 ++ signs_text 0 ss)
-signs_text n (STOP ∷ ss) = run_text n ++ (name_text 2 ++ signs_text 0 ss)
-signs_text n (address_byte b ∷ ss) = run_text n ++ (address_text b ++ signs_text 0 ss)
-signs_text n (written b ∷ ss) = run_text n ++ (byte_text b ++ signs_text 0 ss)
+signs_text n (ReadSlot ∷ ss) = signs_text (n + 1) ss
+signs_text n (Start ∷ ss) = run_text n ++ (sign_text Start ++ signs_text 0 ss)
+signs_text n (Restart ∷ ss) = run_text n ++ (sign_text Restart ++ signs_text 0 ss)
+signs_text n (Stop ∷ ss) = run_text n ++ (sign_text Stop ++ signs_text 0 ss)
+signs_text n (Address b ∷ ss) = run_text n ++ (sign_text (Address b) ++ signs_text 0 ss)
+signs_text n (Written b ∷ ss) = run_text n ++ (sign_text (Written b) ++ signs_text 0 ss)
 
 -- `bus` and the sequence; nothing where the transfer put nothing on the bus
 unfoldable pub sequence_text : List Sign → List ℕ

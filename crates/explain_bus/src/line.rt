@@ -2,41 +2,18 @@
 ghost use Rattle.std.specs.Prelude.{◌≡◌, ◌+◌, ◌*◌, ◌<◌, ◌≤◌, length, if◌then◌else◌};
 ghost use Rattle.text_hex.specs.Added.{Room, Added};
 ghost use Rattle.text_hex.specs.Appended.{Appended};
-ghost use Rattle.explain_bus.specs.Line.{name_text, address_text, byte_text, run_text, bus_line};
-ghost use Rattle.explain_bus.specs.Inner.Words.{kind_text, word_text, words_text, words_line};
+ghost use Rattle.explain_bus.specs.Line.{address_text, byte_text, run_text, sign_text, signs_text};
+ghost use Rattle.explain_bus.specs.Line.{sequence_text, bus_line};
 
+use bus::Sign;
 use text_hex::text::Text;
 use text_tables::decimal::push_digits;
-use text_tables::rows::push_cell;
-
-// START, RESTART or STOP.
-#[tactic(auto, unfolding(crate::specs::Line::signs_table))]
-pub fn push_name(text: &mut Text, row: usize)
-    requires room { Room 9 text.old }
-    requires in_table { row < 3 }
-    ensures { Added text.old (name_text row) 9 text.new }
-{
-    push_cell(text, b" START... RESTART. STOP....", 9, row);
-}
 
 // The letter of a direction.
 pub fn letter(read: bool) -> u8
     ensures { result ≡ (if read then 114 else 119) }
 {
     if read { b'r' } else { b'w' }
-}
-
-pub fn push_kind(text: &mut Text, kind: u32, value: u32)
-    requires { Room 9 text.old }
-    ensures { Added text.old (kind_text kind value) 9 text.new }
-{
-    match kind {
-        4 => push_address(text, value),
-        5 => push_byte(text, value),
-        1 => push_name(text, 0),
-        2 => push_name(text, 1),
-        _ => push_name(text, 2),
-    }
 }
 
 fn push_address(text: &mut Text, byte: u32)
@@ -72,37 +49,46 @@ pub fn push_run(text: &mut Text, run: u32)
     text.push(b']');
 }
 
-// A sign that is no read slot, behind a run of read slots.
-fn push_sign(text: &mut Text, run: u32, word: u32)
-    requires { Room (8 * run + 9) text.old }
-    ensures { Added text.old (word_text run word) (8 * run + 9) text.new }
+// A sign alone; a read slot is a run of one.
+#[tactic(auto, using(text_hex::proofs::Adding::at_most))]
+pub fn push_sign(text: &mut Text, sign: Sign)
+    requires { Room 9 text.old }
+    ensures { Added text.old (sign_text sign) 9 text.new }
 {
-    push_run(text, run);
-    push_kind(text, word / 65536, word % 65536);
+    match sign {
+        Sign::Start => text.push_text(b" START"),
+        Sign::Restart => text.push_text(b" RESTART"),
+        Sign::Stop => text.push_text(b" STOP"),
+        Sign::Address(byte) => push_address(text, u32::from(byte)),
+        Sign::Written(byte) => push_byte(text, u32::from(byte)),
+        Sign::ReadSlot => push_run(text, 1),
+    }
 }
 
-fn push_signs(text: &mut Text, signs: &[u32])
+fn push_signs(text: &mut Text, signs: &[Sign])
     requires room { Room (9 * length signs.now) text.old }
     requires few { length signs.now ≤ 32768 }
-    ensures { Added text.old (words_text 0 signs.now) (9 * length signs.now) text.new }
+    ensures { Added text.old (signs_text 0 signs.now) (9 * length signs.now) text.new }
 {
     let mut run: u32 = 0;
-    for word in signs {
-        if *word / 65536 == 6 {
-            run += 1;
-            continue;
+    for &sign in signs {
+        match sign {
+            Sign::ReadSlot => run += 1,
+            _ => {
+                push_run(text, run);
+                push_sign(text, sign);
+                run = 0;
+            }
         }
-        push_sign(text, run, *word);
-        run = 0;
     }
     push_run(text, run);
 }
 
-#[tactic(auto, using(text_hex::proofs::Adding::no_text), unfolding(crate::specs::Inner::Words::words_line))]
-fn push_sequence(text: &mut Text, signs: &[u32])
+#[tactic(auto, using(text_hex::proofs::Adding::no_text), unfolding(crate::specs::Line::sequence_text))]
+fn push_sequence(text: &mut Text, signs: &[Sign])
     requires room { Room 294921 text.old }
     requires few { length signs.now ≤ 32768 }
-    ensures { Added text.old (words_line signs.now) 294921 text.new }
+    ensures { Added text.old (sequence_text signs.now) 294921 text.new }
 {
     if signs.len() == 0 {
         return;
@@ -112,10 +98,10 @@ fn push_sequence(text: &mut Text, signs: &[u32])
     text.push(b'\n');
 }
 
-fn sequence(signs: &[u32], out: &mut [u8]) -> usize
+fn sequence(signs: &[Sign], out: &mut [u8]) -> usize
     requires room { 294921 ≤ length out.old }
     requires few { length signs.now ≤ 32768 }
-    ensures { Appended out.old 0 (words_line signs.now) 294921 out.new result }
+    ensures { Appended out.old 0 (sequence_text signs.now) 294921 out.new result }
 {
     let mut text = Text::new(out, 0);
     push_sequence(&mut text, signs);
@@ -129,7 +115,7 @@ pub const ROOM: usize = 294921;
 
 // The line of a log, in a buffer lent for it; its sequence is put into another.
 #[tactic(auto, using(text_hex::proofs::Appends::nothing), unfolding(crate::specs::Line::bus_line))]
-pub fn bus_line(log: &[u32], places: &mut [u32], out: &mut [u8]) -> usize
+pub fn bus_line(log: &[u32], places: &mut [Sign], out: &mut [u8]) -> usize
     ensures { Appended out.old 0
         (bus_line log.now (length places.old) (length out.old))
         (length out.old) out.new result }

@@ -10,6 +10,7 @@ ghost use Rattle.explain_lines.specs.Inner.Said.{closed_call, start_call, PLACES
 
 use answer_frames::{frame_in, is_answer};
 use answer_lines::{keep_on, no_frame, number_after, push_warning};
+use bus::Sign;
 use explain_beside::beside::tell;
 use explain_beside::transfer::{Transfer, after};
 use explain_bus::line::{ROOM, bus_line};
@@ -62,7 +63,7 @@ impl Call {
     }
 
     // An answer's text behind the bus line of its call.
-    fn push_answer(self, line: &[u8], log: &[u32], places: &mut [u32], out: &mut [u8]) -> usize
+    fn push_answer(self, line: &[u8], log: &[u32], places: &mut [Sign], out: &mut [u8]) -> usize
         requires used { self.used ≤ length log.now }
         requires words { self.used ≤ LOG_WORDS }
         requires signs { PLACES ≤ length places.old }
@@ -77,7 +78,7 @@ impl Call {
 }
 
 // The bus line of a log, in the first bytes of the buffer.
-fn push_bus(log: &[u32], places: &mut [u32], out: &mut [u8]) -> usize
+fn push_bus(log: &[u32], places: &mut [Sign], out: &mut [u8]) -> usize
     requires words { length log.now ≤ LOG_WORDS }
     requires signs { PLACES ≤ length places.old }
     requires room { BUS_ROOM ≤ length out.old }
@@ -94,7 +95,7 @@ pub fn explain_line(
     text: &[u8],
     held: usize,
     log: &mut [u32],
-    places: &mut [u32],
+    places: &mut [Sign],
     out: &mut [u8],
 ) -> Said
     requires { Lent call text.now held log.old places.old out.old }

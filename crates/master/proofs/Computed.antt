@@ -15,7 +15,9 @@ use Rattle.regs.specs.Registers.{DATA_CMD}
 use Rattle.regs.specs.Fields.{set_field}
 use Rattle.regs.specs.Program.{Outcome, outcome, turns, rounds, behaviour}
 use Rattle.regs.specs.Log.{written_to}
-use Rattle.bus.specs.Bus.{Sign, START, RESTART, STOP, address_byte, written, read_slot, signs, bus_sequence}
+use Rattle.bus.specs.declared.Sign.{Sign}
+use Rattle.bus.specs.declared.Sign.TheVariants.{Start, Restart, Stop, Address, Written, ReadSlot}
+use Rattle.bus.specs.Bus.{signs, bus_sequence}
 use Rattle.master.specs.Driver.{setup, tx_fifo_capacity, tx_fifo_full, rx_fifo_len, read_and_clear_abort_reason, reason_of}
 use Rattle.master.specs.Blocking.{read_blocking_bytes, read_blocking_internal, write_blocking_bytes, write_blocking_internal}
 use Rattle.master.specs.Async.{wait_stop_det, queue_batch, fetch_bytes, read_async_internal, fill, write_async_internal}
@@ -43,9 +45,9 @@ pub record Alone : Type 0 where
   pub joins : joined (writes (0x11 ∷ []) ∷ writes (0x22 ∷ []) ∷ reads 1 ∷ reads 2 ∷ writes (0x33 ∷ []) ∷ [])
       ≡ writes (0x11 ∷ 0x22 ∷ []) ∷ reads 3 ∷ writes (0x33 ∷ []) ∷ []
   pub makes : sequence 0x50 (writes (0x11 ∷ 0x22 ∷ []) ∷ reads 1 ∷ [])
-      ≡ START ∷ address_byte 0xA0 ∷ written 0x11 ∷ written 0x22 ∷ RESTART ∷ address_byte 0xA1 ∷ read_slot ∷ STOP ∷ []
-  pub tells : (told (START ∷ address_byte 0xA0 ∷ written 0x11 ∷ written 0x22 ∷ RESTART ∷ address_byte 0xA1
-      ∷ read_slot ∷ STOP ∷ [])).operations
+      ≡ Start ∷ Address 0xA0 ∷ Written 0x11 ∷ Written 0x22 ∷ Restart ∷ Address 0xA1 ∷ ReadSlot ∷ Stop ∷ []
+  pub tells : (told (Start ∷ Address 0xA0 ∷ Written 0x11 ∷ Written 0x22 ∷ Restart ∷ Address 0xA1
+      ∷ ReadSlot ∷ Stop ∷ [])).operations
       ≡ writes (0x11 ∷ 0x22 ∷ []) ∷ reads 1 ∷ []
 
 pub alone : Alone
@@ -64,7 +66,7 @@ pub record Corners : Type 0 where
   -- an async read of 3 bytes: a round of no words where the FIFO is full, one of two with a pending poll, one of one
   pub three_rounds : Makes (left async 0x50 (read 3)
       (16 ∷ 0 ∷ 0 ∷ 14 ∷ 1 ∷ 0 ∷ 0 ∷ 2 ∷ 0 ∷ 0xAA ∷ 0xBB ∷ 0 ∷ 1 ∷ 0 ∷ 0xCC ∷ 0 ∷ 0x200 ∷ 0 ∷ []))
-      (START ∷ address_byte 0xA1 ∷ read_slot ∷ read_slot ∷ read_slot ∷ STOP ∷ [])
+      (Start ∷ Address 0xA1 ∷ ReadSlot ∷ ReadSlot ∷ ReadSlot ∷ Stop ∷ [])
   pub three_bytes : (left async 0x50 (read 3)
       (16 ∷ 0 ∷ 0 ∷ 14 ∷ 1 ∷ 0 ∷ 0 ∷ 2 ∷ 0 ∷ 0xAA ∷ 0xBB ∷ 0 ∷ 1 ∷ 0 ∷ 0xCC ∷ 0 ∷ 0x200 ∷ 0 ∷ [])).buffer
       ≡ 0xAA ∷ 0xBB ∷ 0xCC ∷ []
@@ -78,14 +80,14 @@ pub record Corners : Type 0 where
       0x78 1 ∷ Read 0x80 0 ∷ Write 0x38 1 ∷ Read 0x30 0x200 ∷ Write 0x30 0x244 ∷ Marked 0 ∷ []
   -- an async write that fills the FIFO exactly goes round once more, and then leaves both loops
   pub exact_fill : Makes (left async 0x50 (write (0x11 ∷ 0x22 ∷ [])) (14 ∷ 0 ∷ 16 ∷ 0 ∷ 0 ∷ 15 ∷ 15 ∷ 0 ∷ 0x200 ∷ 0 ∷ []))
-      (START ∷ address_byte 0xA0 ∷ written 0x11 ∷ written 0x22 ∷ STOP ∷ [])
+      (Start ∷ Address 0xA0 ∷ Written 0x11 ∷ Written 0x22 ∷ Stop ∷ [])
   -- a write-read, and the transaction of the same
   pub write_read_pair : Makes (left blocking 0x50 (write_read (0x11 ∷ []) 2) (0x10 ∷ 0 ∷ 16 ∷ 3 ∷ 0 ∷ 0 ∷ 1 ∷ 0xAA ∷ 0 ∷ 1 ∷ 0xBB ∷ []))
-      (START ∷ address_byte 0xA0 ∷ written 0x11 ∷ RESTART ∷ address_byte 0xA1 ∷ read_slot ∷ read_slot ∷ STOP ∷ [])
+      (Start ∷ Address 0xA0 ∷ Written 0x11 ∷ Restart ∷ Address 0xA1 ∷ ReadSlot ∷ ReadSlot ∷ Stop ∷ [])
   pub transaction_pair : Makes
       (left async 0x50 (transaction (writes (0x11 ∷ []) ∷ reads 1 ∷ reads 1 ∷ []))
       (0 ∷ 0 ∷ 1 ∷ 0 ∷ 0xAA ∷ 0 ∷ 1 ∷ 0 ∷ 0xBB ∷ 0 ∷ 0x200 ∷ 0 ∷ []))
-      (START ∷ address_byte 0xA0 ∷ written 0x11 ∷ RESTART ∷ address_byte 0xA1 ∷ read_slot ∷ read_slot ∷ STOP ∷ [])
+      (Start ∷ Address 0xA0 ∷ Written 0x11 ∷ Restart ∷ Address 0xA1 ∷ ReadSlot ∷ ReadSlot ∷ Stop ∷ [])
   -- a read starts in the lent buffer where the reads before it ended
   pub second_read_behind : (left blocking 0x50 (transaction (reads 1 ∷ writes (0x11 ∷ []) ∷ reads 2 ∷ []))
       (0 ∷ 1 ∷ 0xAA ∷ 0x10 ∷ 0 ∷ 0 ∷ 1 ∷ 0xBB ∷ 0 ∷ 1 ∷ 0xCC ∷ [])).buffer
@@ -206,10 +208,10 @@ limits = record {
 pub record Without : Type 0 where
   -- a number that is no byte: 0x100 written is a read word
   pub no_byte : Makes (left blocking 0x50 (write (0x100 ∷ [])) (0x10 ∷ 0 ∷ 0x200 ∷ 0 ∷ []))
-      (START ∷ address_byte 0xA1 ∷ read_slot ∷ STOP ∷ [])
+      (Start ∷ Address 0xA1 ∷ ReadSlot ∷ Stop ∷ [])
   -- an empty async write at the end: no STOP is asked for, and one is waited for
   pub empty_last : Makes (left async 0x50 (transaction (reads 1 ∷ writes [] ∷ [])) (0 ∷ 1 ∷ 0 ∷ 0xAA ∷ 0 ∷ 0 ∷ 0x200 ∷ 0 ∷ []))
-      (START ∷ address_byte 0xA1 ∷ read_slot ∷ [])
+      (Start ∷ Address 0xA1 ∷ ReadSlot ∷ [])
   -- an async write of nothing: accepted, nothing on the bus
   pub empty_alone : Makes (left async 0x50 (write []) (0 ∷ 0 ∷ 0x200 ∷ 0 ∷ [])) []
   -- no operations: the blocking form runs `setup`, the async form makes no access, whatever the address

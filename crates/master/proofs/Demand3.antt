@@ -27,7 +27,7 @@ use Rattle.regs.specs.Log.{Each, expected, written_to}
 use Rattle.regs.proofs.Tests.{by_test}
 use Rattle.regs.proofs.RoundTrip.{read_back}
 use Rattle.bus.specs.declared.Bus.TheVariants.{Idle}
-use Rattle.bus.specs.Bus.{Sign}
+use Rattle.bus.specs.declared.Sign.{Sign}
 use Rattle.crc8.specs.Crc8.{crc8}
 use Rattle.crc8.proofs.Laws.{is_byte}
 use Rattle.master.specs.Driver.{Driver, setup, reason_of}

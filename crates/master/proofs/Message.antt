@@ -17,8 +17,10 @@ use Rattle.bus.specs.declared.Direction.TheVariants.{Writing, Reading}
 use Rattle.bus.specs.declared.Bus.{Bus}
 use Rattle.bus.specs.declared.Bus.TheVariants.{Idle, Busy}
 use Rattle.bus.specs.declared.Condition.{Condition}
-use Rattle.bus.specs.declared.Condition.TheVariants.{Start, Restart}
-use Rattle.bus.specs.Bus.{Sign, START, RESTART, STOP, address_byte, written, read_slot, opening}
+use Rattle.bus.specs.declared.Condition.TheVariants as C
+use Rattle.bus.specs.declared.Sign.{Sign}
+use Rattle.bus.specs.declared.Sign.TheVariants.{Start, Restart, Stop, Address, Written, ReadSlot}
+use Rattle.bus.specs.Bus.{opening}
 use Rattle.master.specs.Operations.{Operation, writes, reads}
 use Rattle.master.specs.Sequence.{joined, direction, payload, sequence}
 use Rattle.master.specs.Coded.{message, code_of, with_code, room_of, ends_in_read, is_right}
@@ -30,11 +32,11 @@ use Rattle.master.proofs.Longer.{not_nil}
 -- ---- the sequence: one sign more before STOP
 
 abbrev code_sign : ℕ → List (Operation ℕ) → Sign
-code_sign c os = if ends_in_read os then read_slot else written c
+code_sign c os = if ends_in_read os then ReadSlot else Written c
 
-slots_and : (n : ℕ) → replicate (suc n) read_slot ≡ replicate n read_slot ++ read_slot ∷ []
+slots_and : (n : ℕ) → replicate (suc n) ReadSlot ≡ replicate n ReadSlot ++ ReadSlot ∷ []
 slots_and zero = refl
-slots_and (suc n) = ap (λ (ss : List Sign). read_slot ∷ ss) (slots_and n)
+slots_and (suc n) = ap (λ (ss : List Sign). ReadSlot ∷ ss) (slots_and n)
 
 -- behind the one operation
 behind : (before old new : List Sign) (s : Sign) → new ≡ old ++ s ∷ []
@@ -49,37 +51,37 @@ unfolding body with_code ends_in_read
 code_body bus a c [] some full = absurd (some refl)
 code_body bus a c (writes [] ∷ []) some full = absurd full.0
 code_body bus a c (writes (x ∷ xs) ∷ []) some full =
-    behind (front bus a Writing false) (map written (x ∷ xs)) (map written (x ∷ (xs ++ c ∷ []))) (written c)
-    (map_append written (x ∷ xs) (c ∷ []))
+    behind (front bus a Writing false) (map Written (x ∷ xs)) (map Written (x ∷ (xs ++ c ∷ []))) (Written c)
+    (map_append Written (x ∷ xs) (c ∷ []))
 code_body bus a c (reads zero ∷ []) some full = absurd full.0
 code_body bus a c (reads (suc n) ∷ []) some full =
-    behind (front bus a Reading false) (replicate (suc n) read_slot) (replicate (suc (suc n)) read_slot) read_slot (slots_and (suc n))
+    behind (front bus a Reading false) (replicate (suc n) ReadSlot) (replicate (suc (suc n)) ReadSlot) ReadSlot (slots_and (suc n))
 code_body bus a c (o ∷ (p ∷ os)) some full =
     ap (λ (ss : List Sign). front bus a (direction o) false ++ (payload o ++ ss))
     (code_body (Busy (direction o)) a c (p ∷ os) (not_nil p os) full.1)
     ∙ sym (append_three (front bus a (direction o) false) (payload o) (body (Busy (direction o)) a (p ∷ os)) (code_sign c (p ∷ os) ∷ []))
 
 code_sequence : (a c : ℕ) (os : List (Operation ℕ)) → os ≢ [] → Each NotEmpty os
-    → sequence a (joined (with_code c os)) ≡ body Idle a os ++ (code_sign c os ∷ STOP ∷ [])
+    → sequence a (joined (with_code c os)) ≡ body Idle a os ++ (code_sign c os ∷ Stop ∷ [])
 code_sequence a c os some full =
     sequence_body a (with_code c os)
-    ∙ (ap (λ (ss : List Sign). ss ++ STOP ∷ []) (code_body Idle a c os some full)
-    ∙ append_assoc (body Idle a os) (code_sign c os ∷ []) (STOP ∷ []))
+    ∙ (ap (λ (ss : List Sign). ss ++ Stop ∷ []) (code_body Idle a c os some full)
+    ∙ append_assoc (body Idle a os) (code_sign c os ∷ []) (Stop ∷ []))
 
 -- ---- its read slots
 
 opening_slots : (o : Option Condition) (a : ℕ) (d : Direction) (ss : List Sign) → slots (opening o a d ++ ss) ≡ slots ss
 unfolding slots
 opening_slots None a d ss = refl
-opening_slots (Some Start) a d ss = refl
-opening_slots (Some Restart) a d ss = refl
+opening_slots (Some C.Start) a d ss = refl
+opening_slots (Some C.Restart) a d ss = refl
 
-written_slots : (bs : List ℕ) (ss : List Sign) → slots (map written bs ++ ss) ≡ slots ss
+written_slots : (bs : List ℕ) (ss : List Sign) → slots (map Written bs ++ ss) ≡ slots ss
 unfolding slots
 written_slots [] ss = refl
 written_slots (b ∷ bs) ss = written_slots bs ss
 
-read_slots : (n : ℕ) (ss : List Sign) → slots (replicate n read_slot ++ ss) ≡ n + slots ss
+read_slots : (n : ℕ) (ss : List Sign) → slots (replicate n ReadSlot ++ ss) ≡ n + slots ss
 unfolding slots
 read_slots zero ss = omega arith
 read_slots (suc n) ss = ap suc (read_slots n ss) ∙ omega arith
@@ -97,16 +99,16 @@ body_slots bus a (reads n ∷ os) =
 -- ---- the bytes: one more at the end
 
 written_last : (c : ℕ) (ss : List Sign) (came : List ℕ)
-    → message (ss ++ (written c ∷ STOP ∷ [])) came ≡ message (ss ++ STOP ∷ []) came ++ c ∷ []
+    → message (ss ++ (Written c ∷ Stop ∷ [])) came ≡ message (ss ++ Stop ∷ []) came ++ c ∷ []
 unfolding message
 written_last c [] came = refl
-written_last c (START ∷ ss) came = written_last c ss came
-written_last c (RESTART ∷ ss) came = written_last c ss came
-written_last c (STOP ∷ ss) came = written_last c ss came
-written_last c (address_byte a ∷ ss) came = ap (λ (bs : List ℕ). a ∷ bs) (written_last c ss came)
-written_last c (written b ∷ ss) came = ap (λ (bs : List ℕ). b ∷ bs) (written_last c ss came)
-written_last c (read_slot ∷ ss) [] = written_last c ss []
-written_last c (read_slot ∷ ss) (b ∷ came) = ap (λ (bs : List ℕ). b ∷ bs) (written_last c ss came)
+written_last c (Start ∷ ss) came = written_last c ss came
+written_last c (Restart ∷ ss) came = written_last c ss came
+written_last c (Stop ∷ ss) came = written_last c ss came
+written_last c (Address a ∷ ss) came = ap (λ (bs : List ℕ). a ∷ bs) (written_last c ss came)
+written_last c (Written b ∷ ss) came = ap (λ (bs : List ℕ). b ∷ bs) (written_last c ss came)
+written_last c (ReadSlot ∷ ss) [] = written_last c ss []
+written_last c (ReadSlot ∷ ss) (b ∷ came) = ap (λ (bs : List ℕ). b ∷ bs) (written_last c ss came)
 
 -- the byte that came at n, if one did
 abbrev came_at : ℕ → List ℕ → List ℕ
@@ -115,17 +117,17 @@ came_at zero (b ∷ came) = b ∷ []
 came_at (suc n) (b ∷ came) = came_at n came
 
 slot_last : (ss : List Sign) (came : List ℕ)
-    → message (ss ++ (read_slot ∷ STOP ∷ [])) came ≡ message (ss ++ STOP ∷ []) came ++ came_at (slots ss) came
+    → message (ss ++ (ReadSlot ∷ Stop ∷ [])) came ≡ message (ss ++ Stop ∷ []) came ++ came_at (slots ss) came
 unfolding message slots
 slot_last [] [] = refl
 slot_last [] (b ∷ came) = refl
-slot_last (START ∷ ss) came = slot_last ss came
-slot_last (RESTART ∷ ss) came = slot_last ss came
-slot_last (STOP ∷ ss) came = slot_last ss came
-slot_last (address_byte a ∷ ss) came = ap (λ (bs : List ℕ). a ∷ bs) (slot_last ss came)
-slot_last (written b ∷ ss) came = ap (λ (bs : List ℕ). b ∷ bs) (slot_last ss came)
-slot_last (read_slot ∷ ss) [] = slot_last ss []
-slot_last (read_slot ∷ ss) (b ∷ came) = ap (λ (bs : List ℕ). b ∷ bs) (slot_last ss came)
+slot_last (Start ∷ ss) came = slot_last ss came
+slot_last (Restart ∷ ss) came = slot_last ss came
+slot_last (Stop ∷ ss) came = slot_last ss came
+slot_last (Address a ∷ ss) came = ap (λ (bs : List ℕ). a ∷ bs) (slot_last ss came)
+slot_last (Written b ∷ ss) came = ap (λ (bs : List ℕ). b ∷ bs) (slot_last ss came)
+slot_last (ReadSlot ∷ ss) [] = slot_last ss []
+slot_last (ReadSlot ∷ ss) (b ∷ came) = ap (λ (bs : List ℕ). b ∷ bs) (slot_last ss came)
 
 -- where none came, a code that is right is 0
 came_right : (r n : ℕ) (came : List ℕ) → r < 256 → get_or came n 0 ≡ r → crc8_from r (came_at n came) ≡ 0
@@ -136,16 +138,16 @@ came_right r (suc n) (b ∷ came) h e = came_right r n came h e
 
 -- ---- the code
 
-module _ (ss : List Sign) (came : List ℕ) (c : ℕ) (is_code : c ≡ crc8 (message (ss ++ STOP ∷ []) came)) where
-  written_right : crc8 (message (ss ++ (written c ∷ STOP ∷ [])) came) ≡ 0
+module _ (ss : List Sign) (came : List ℕ) (c : ℕ) (is_code : c ≡ crc8 (message (ss ++ Stop ∷ []) came)) where
+  written_right : crc8 (message (ss ++ (Written c ∷ Stop ∷ [])) came) ≡ 0
   written_right =
-      let bytes : List ℕ = message (ss ++ STOP ∷ []) came in
+      let bytes : List ℕ = message (ss ++ Stop ∷ []) came in
       ap crc8 (written_last c ss came)
       ∙ (ap (λ (b : ℕ). crc8 (bytes ++ b ∷ [])) is_code ∙ residue 0 bytes (omega arith))
 
-  slot_right : get_or came (slots ss) 0 ≡ c → crc8 (message (ss ++ (read_slot ∷ STOP ∷ [])) came) ≡ 0
+  slot_right : get_or came (slots ss) 0 ≡ c → crc8 (message (ss ++ (ReadSlot ∷ Stop ∷ [])) came) ≡ 0
   slot_right e =
-      let bytes : List ℕ = message (ss ++ STOP ∷ []) came in
+      let bytes : List ℕ = message (ss ++ Stop ∷ []) came in
       ap crc8 (slot_last ss came)
       ∙ (in_parts 0 bytes (came_at (slots ss) came)
       ∙ came_right (crc8 bytes) (slots ss) came (is_byte 0 bytes (omega arith)) (e ∙ is_code))
@@ -155,8 +157,8 @@ pub code_behind : (a : ℕ) (os : List (Operation ℕ)) (came : List ℕ) → os
     → crc8 (message (sequence a (joined (with_code (code_of a os came) os))) came) ≡ 0
 code_behind a os came some full right =
     let c : ℕ = code_of a os came in
-    let same : c ≡ crc8 (message (body Idle a os ++ STOP ∷ []) came) = ap (λ (ss : List Sign). crc8 (message ss came)) (sequence_body a os) in
-    let rest : crc8 (message (body Idle a os ++ (code_sign c os ∷ STOP ∷ [])) came) ≡ 0 =
+    let same : c ≡ crc8 (message (body Idle a os ++ Stop ∷ []) came) = ap (λ (ss : List Sign). crc8 (message ss came)) (sequence_body a os) in
+    let rest : crc8 (message (body Idle a os ++ (code_sign c os ∷ Stop ∷ [])) came) ≡ 0 =
     by_test (ends_in_read os)
     (λ q. rw q (slot_right (body Idle a os) came c same
     (ap (λ (n : ℕ). get_or came n 0) (body_slots Idle a os) ∙ eqb-true (get_or came (room_of os) 0) c (rw q at right))))

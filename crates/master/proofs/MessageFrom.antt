@@ -5,19 +5,20 @@ use mathlib.Core.List.{List, [], ◌∷◌, ◌++◌, map, append_assoc}
 use mathlib.Core.Path.{◌≡◌, refl, sym, ap, ◌∙◌}
 use lib.ListN.{take, drop, replicate}
 use lib.Seq.{take-nil, drop-nil, take-add, drop-drop}
-use Rattle.bus.specs.Bus.{Sign, RESTART, written, read_slot}
+use Rattle.bus.specs.declared.Sign.{Sign}
+use Rattle.bus.specs.declared.Sign.TheVariants.{Restart, Written, ReadSlot}
 use Rattle.master.specs.Operations.{Operation, writes, reads, READ, WRITE}
 use Rattle.master.specs.Sequence.{joined_to, joined, sequence_from, sequence}
 use Rattle.master.specs.Coded.{message}
 use Rattle.master.specs.Inner.Message.{opened, message_from}
 
-message_written : (bs : List ℕ) (ss : List Sign) (came : List ℕ) → message (map written bs ++ ss) came ≡ bs ++ message ss came
+message_written : (bs : List ℕ) (ss : List Sign) (came : List ℕ) → message (map Written bs ++ ss) came ≡ bs ++ message ss came
 unfolding message
 message_written [] ss came = refl
 message_written (b ∷ bs) ss came = ap (λ (l : List ℕ). b ∷ l) (message_written bs ss came)
 
 message_read : (n : ℕ) (ss : List Sign) (came : List ℕ)
-    → message (replicate n read_slot ++ ss) came ≡ take n came ++ message ss (drop n came)
+    → message (replicate n ReadSlot ++ ss) came ≡ take n came ++ message ss (drop n came)
 unfolding message
 message_read zero ss came = refl
 message_read (suc n) ss [] = message_read n ss [] ∙ rw (take-nil {A = ℕ} n, drop-nil {A = ℕ} n)
@@ -26,7 +27,7 @@ message_read (suc n) ss (b ∷ came) = ap (λ (l : List ℕ). b ∷ l) (message_
 module _ (address : ℕ) where
   -- the message behind an operation
   abbrev rest_of : List (Operation ℕ) → List ℕ → List ℕ
-  rest_of js came = message (sequence_from RESTART address js) came
+  rest_of js came = message (sequence_from Restart address js) came
 
   -- of joined operations, behind one of this kind
   abbrev behind : ℕ → List (Operation ℕ) → List ℕ → List ℕ
@@ -37,12 +38,12 @@ module _ (address : ℕ) where
   rest_writes : (bs : List ℕ) (js : List (Operation ℕ)) (came : List ℕ)
       → rest_of (writes bs ∷ js) came ≡ (address * 2 + 0) ∷ (bs ++ rest_of js came)
   unfolding message sequence_from
-  rest_writes bs js came = ap (λ (l : List ℕ). (address * 2 + 0) ∷ l) (message_written bs (sequence_from RESTART address js) came)
+  rest_writes bs js came = ap (λ (l : List ℕ). (address * 2 + 0) ∷ l) (message_written bs (sequence_from Restart address js) came)
 
   rest_reads : (n : ℕ) (js : List (Operation ℕ)) (came : List ℕ)
       → rest_of (reads n ∷ js) came ≡ (address * 2 + 1) ∷ (take n came ++ rest_of js (drop n came))
   unfolding message sequence_from
-  rest_reads n js came = ap (λ (l : List ℕ). (address * 2 + 1) ∷ l) (message_read n (sequence_from RESTART address js) came)
+  rest_reads n js came = ap (λ (l : List ℕ). (address * 2 + 1) ∷ l) (message_read n (sequence_from Restart address js) came)
 
   -- one more operation in front
   write_behind : (last : ℕ) (a : List ℕ) (js : List (Operation ℕ)) (came : List ℕ)
@@ -80,9 +81,9 @@ module _ (address : ℕ) where
   unfolding message sequence_from
   from_start [] came = refl
   from_start (writes bs ∷ js) came =
-      ap (λ (l : List ℕ). (address * 2 + 0) ∷ l) (message_written bs (sequence_from RESTART address js) came)
+      ap (λ (l : List ℕ). (address * 2 + 0) ∷ l) (message_written bs (sequence_from Restart address js) came)
   from_start (reads n ∷ js) came =
-      ap (λ (l : List ℕ). (address * 2 + 1) ∷ l) (message_read n (sequence_from RESTART address js) came)
+      ap (λ (l : List ℕ). (address * 2 + 1) ∷ l) (message_read n (sequence_from Restart address js) came)
 
   pub message_is : (os : List (Operation ℕ)) (came : List ℕ)
       → message (sequence address (joined os)) came ≡ message_from address 2 os came

@@ -15,8 +15,10 @@ use Rattle.bus.specs.declared.Direction.TheVariants.{Writing, Reading}
 use Rattle.bus.specs.declared.Bus.{Bus}
 use Rattle.bus.specs.declared.Bus.TheVariants.{Idle, Busy}
 use Rattle.bus.specs.declared.Condition.{Condition}
-use Rattle.bus.specs.declared.Condition.TheVariants.{Start, Restart}
-use Rattle.bus.specs.Bus.{Sign, RESTART, STOP, written, read_slot, same, direction_of, opening_of, opening, byte_sign, closing, signs}
+use Rattle.bus.specs.declared.Condition.TheVariants as C
+use Rattle.bus.specs.declared.Sign.{Sign}
+use Rattle.bus.specs.declared.Sign.TheVariants.{Restart, Stop, Written, ReadSlot}
+use Rattle.bus.specs.Bus.{same, direction_of, opening_of, opening, byte_sign, closing, signs}
 use Rattle.master.specs.Operations.{Operation, writes, reads}
 use Rattle.master.specs.Sequence.{joined_to, joined, direction, payload, sequence_from, sequence}
 use Rattle.master.specs.Demand3.{NotEmpty}
@@ -32,8 +34,8 @@ OfBytes = Small
 
 -- what comes before a byte, by its direction and its RESTART flag
 abbrev pub opens : Bus → Direction → Bool → Option Condition
-opens Idle d flag = Some Start
-opens (Busy e) d flag = if same e d && not flag then None else Some Restart
+opens Idle d flag = Some C.Start
+opens (Busy e) d flag = if same e d && not flag then None else Some C.Restart
 
 abbrev pub front : Bus → ℕ → Direction → Bool → List Sign
 front bus a d flag = opening (opens bus d flag) a d
@@ -55,7 +57,7 @@ signs_of_word bus a w ws = rw (opens_as bus w) (append_assoc (front bus a (direc
 
 signs_of_read : (bus : Bus) (a : ℕ) (restart stop : Bool) (ws : List ℕ)
     → signs bus a (command_word 0 true stop restart ∷ ws)
-    ≡ front bus a Reading restart ++ (read_slot ∷ (closing stop ++ signs (left stop Reading) a ws))
+    ≡ front bus a Reading restart ++ (ReadSlot ∷ (closing stop ++ signs (left stop Reading) a ws))
 signs_of_read bus a true true ws = signs_of_word bus a _ ws
 signs_of_read bus a true false ws = signs_of_word bus a _ ws
 signs_of_read bus a false true ws = signs_of_word bus a _ ws
@@ -63,7 +65,7 @@ signs_of_read bus a false false ws = signs_of_word bus a _ ws
 
 signs_of_write : (bus : Bus) (a b : ℕ) (stop : Bool) (ws : List ℕ) → b < 256
     → signs bus a (command_word b false stop false ∷ ws)
-    ≡ front bus a Writing false ++ (written b ∷ (closing stop ++ signs (left stop Writing) a ws))
+    ≡ front bus a Writing false ++ (Written b ∷ (closing stop ++ signs (left stop Writing) a ws))
 signs_of_write bus a b true ws small =
     let w : ℕ = command_word b false true false in
     let r : w / 2 ^ 8 % 2 ≡ 0 = omega arith in
@@ -82,7 +84,7 @@ signs_of_write bus a b false ws small =
 -- one operation
 signs_of_writes : (bus : Bus) (a : ℕ) (stop : Bool) (b : ℕ) (bs : List ℕ) (ws : List ℕ) → Bytes (b ∷ bs)
     → signs bus a (write_words stop (b ∷ bs) ++ ws) ≡ front bus a Writing false
-    ++ (map written (b ∷ bs) ++ (closing stop ++ signs (left stop Writing) a ws))
+    ++ (map Written (b ∷ bs) ++ (closing stop ++ signs (left stop Writing) a ws))
 unfolding write_words
 signs_of_writes bus a stop b [] ws small = rw (and-true, signs_of_write bus a b stop ws small.0)
 signs_of_writes bus a stop b (c ∷ cs) ws small =
@@ -95,7 +97,7 @@ signs_of_writes bus a stop b (c ∷ cs) ws small =
 signs_of_reads : (bus : Bus) (a : ℕ) (restart stop : Bool) (n : ℕ) (ws : List ℕ)
     → signs bus a (read_words restart stop (suc n) ++ ws)
     ≡ front bus a Reading restart
-    ++ (replicate (suc n) read_slot ++ (closing stop ++ signs (left stop Reading) a ws))
+    ++ (replicate (suc n) ReadSlot ++ (closing stop ++ signs (left stop Reading) a ws))
 unfolding read_words
 signs_of_reads bus a restart stop zero ws = rw (and-true, signs_of_read bus a restart stop ws)
 signs_of_reads bus a restart stop (suc n) ws =
@@ -123,8 +125,8 @@ signs_of_operation bus a restart stop (reads (suc n)) ws full bytes harmless = r
 
 -- the sequence from a bus that may be busy already
 flow : Bus → ℕ → List (Operation ℕ) → List Sign
-flow bus a [] = STOP ∷ []
-flow bus a (o ∷ os) = front bus a (direction o) false ++ (payload o ++ sequence_from RESTART a os)
+flow bus a [] = Stop ∷ []
+flow bus a (o ∷ os) = front bus a (direction o) false ++ (payload o ++ sequence_from Restart a os)
 
 pub map_append : (f : ℕ → Sign) (xs ys : List ℕ) → map f (xs ++ ys) ≡ map f xs ++ map f ys
 map_append f [] ys = refl
@@ -134,10 +136,10 @@ flow_joined : (bus : Bus) (a : ℕ) (o : Operation ℕ) (os : List (Operation �
     → flow bus a (joined_to o os) ≡ front bus a (direction o) false ++ (payload o ++ flow (Busy (direction o)) a os)
 unfolding flow sequence_from
 flow_joined bus a o [] = refl
-flow_joined bus a (writes b) (writes c ∷ os) = rw (map_append, append_assoc (map written b))
+flow_joined bus a (writes b) (writes c ∷ os) = rw (map_append, append_assoc (map Written b))
 flow_joined bus a (writes b) (reads n ∷ os) = refl
 flow_joined bus a (reads m) (writes c ∷ os) = refl
-flow_joined bus a (reads m) (reads n ∷ os) = rw (← replicate-append-replicate m n read_slot, append_assoc (replicate m read_slot))
+flow_joined bus a (reads m) (reads n ∷ os) = rw (← replicate-append-replicate m n ReadSlot, append_assoc (replicate m ReadSlot))
 
 abbrev pub AllHarmless : Bool → Bus → List (Operation ℕ) → Type 0
 AllHarmless restart bus [] = Unit {0}
@@ -183,13 +185,13 @@ body bus a (o ∷ os) = front bus a (direction o) false ++ (payload o ++ body (B
 pub append_three : (xs ys zs ws : List Sign) → (xs ++ (ys ++ zs)) ++ ws ≡ xs ++ (ys ++ (zs ++ ws))
 append_three xs ys zs ws = append_assoc xs (ys ++ zs) ws ∙ ap (λ (r : List Sign). xs ++ r) (append_assoc ys zs ws)
 
-flow_body : (bus : Bus) (a : ℕ) (os : List (Operation ℕ)) → flow bus a (joined os) ≡ body bus a os ++ STOP ∷ []
+flow_body : (bus : Bus) (a : ℕ) (os : List (Operation ℕ)) → flow bus a (joined os) ≡ body bus a os ++ Stop ∷ []
 unfolding flow joined body
 flow_body bus a [] = refl
 flow_body bus a (o ∷ os) =
     flow_joined bus a o (joined os)
     ∙ (ap (λ (ss : List Sign). front bus a (direction o) false ++ (payload o ++ ss)) (flow_body (Busy (direction o)) a os)
-    ∙ sym (append_three (front bus a (direction o) false) (payload o) (body (Busy (direction o)) a os) (STOP ∷ [])))
+    ∙ sym (append_three (front bus a (direction o) false) (payload o) (body (Busy (direction o)) a os) (Stop ∷ [])))
 
-pub sequence_body : (a : ℕ) (os : List (Operation ℕ)) → sequence a (joined os) ≡ body Idle a os ++ STOP ∷ []
+pub sequence_body : (a : ℕ) (os : List (Operation ℕ)) → sequence a (joined os) ≡ body Idle a os ++ Stop ∷ []
 sequence_body a os = sym (idle_flow a (joined os)) ∙ flow_body Idle a os

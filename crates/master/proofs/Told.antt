@@ -8,12 +8,14 @@ use mathlib.Core.List.{List, [], ◌∷◌, ◌++◌, map, append-nil}
 use lib.ListN.{replicate}
 use Rattle.bus.specs.declared.Direction.{Direction}
 use Rattle.bus.specs.declared.Direction.TheVariants.{Writing, Reading}
-use Rattle.bus.specs.Bus.{Sign, RESTART, written, read_slot, direction_bit}
+use Rattle.bus.specs.declared.Sign.{Sign}
+use Rattle.bus.specs.declared.Sign.TheVariants.{Restart, Written, ReadSlot}
+use Rattle.bus.specs.Bus.{direction_bit}
 use Rattle.master.specs.Operations.{Operation, writes, reads}
 use Rattle.master.specs.Sequence.{direction, sequence_from, sequence, told}
 
 told_bytes : (bs : List ℕ) (ss : List Sign)
-    → told (map written bs ++ ss) ≡ record {
+    → told (map Written bs ++ ss) ≡ record {
       bytes = bs ++ (told ss).bytes;
       slots = (told ss).slots;
       operations = (told ss).operations;
@@ -24,7 +26,7 @@ told_bytes [] ss = refl
 told_bytes (b ∷ bs) ss = rw (told_bytes bs ss)
 
 told_slots : (n : ℕ) (ss : List Sign)
-    → told (replicate n read_slot ++ ss) ≡ record {
+    → told (replicate n ReadSlot ++ ss) ≡ record {
       bytes = (told ss).bytes;
       slots = (told ss).slots + n;
       operations = (told ss).operations;
@@ -35,20 +37,20 @@ told_slots zero ss = rw add-zero
 told_slots (suc n) ss = rw (told_slots n ss, add-suc)
 
 -- what follows an operation begins with RESTART or STOP
-ended : (a : ℕ) (os : List (Operation ℕ)) → ((told (sequence_from RESTART a os)).bytes ≡ []) × ((told (sequence_from RESTART a os)).slots ≡ 0)
+ended : (a : ℕ) (os : List (Operation ℕ)) → ((told (sequence_from Restart a os)).bytes ≡ []) × ((told (sequence_from Restart a os)).slots ≡ 0)
 unfolding told sequence_from
 ended a [] = (refl, refl)
 ended a (o ∷ os) = (refl, refl)
 
-told_back : (a : ℕ) (os : List (Operation ℕ)) → (told (sequence_from RESTART a os)).operations ≡ os
+told_back : (a : ℕ) (os : List (Operation ℕ)) → (told (sequence_from Restart a os)).operations ≡ os
 unfolding told sequence_from
 told_back a [] = refl
 told_back a (writes bs ∷ os) =
     let even : (a * 2 + 0) % 2 ≡ 0 = omega arith in
-    rw (even, told_bytes bs (sequence_from RESTART a os), (ended a os).0, append-nil, told_back a os)
+    rw (even, told_bytes bs (sequence_from Restart a os), (ended a os).0, append-nil, told_back a os)
 told_back a (reads n ∷ os) =
     let odd : (a * 2 + 1) % 2 ≡ 1 = omega arith in
-    rw (odd, told_slots n (sequence_from RESTART a os), (ended a os).1, zero-add, told_back a os)
+    rw (odd, told_slots n (sequence_from Restart a os), (ended a os).1, zero-add, told_back a os)
 
 halved : (a : ℕ) (d : Direction) → (a * 2 + direction_bit d) / 2 ≡ a
 halved a Writing = omega arith

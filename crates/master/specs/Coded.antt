@@ -11,7 +11,8 @@ use Rattle.regs.specs.Fields.{command_word, cmd, stop}
 use Rattle.regs.specs.Left.{bytes_read}
 use Rattle.regs.specs.Program.{◌>>◌, return, exit, skip, when}
 use Rattle.regs.specs.Watched.{Watcher, watched}
-use Rattle.bus.specs.Bus.{Sign, START, RESTART, STOP, address_byte, written, read_slot}
+use Rattle.bus.specs.declared.Sign.{Sign}
+use Rattle.bus.specs.declared.Sign.TheVariants.{Start, Restart, Stop, Address, Written, ReadSlot}
 use Rattle.master.specs.Driver.{Driver, Reasons, setup}
 use Rattle.master.specs.Async.{is_empty}
 use Rattle.master.specs.Operations.{Operation, writes, reads, Mode, blocking, async}
@@ -25,13 +26,13 @@ use Rattle.master.specs.Transfer.{read_internal, write_internal}
 -- slot for which none came has no byte
 unfoldable pub message : List Sign → List ℕ → List ℕ
 message [] came = []
-message (START ∷ ss) came = message ss came
-message (RESTART ∷ ss) came = message ss came
-message (STOP ∷ ss) came = message ss came
-message (address_byte a ∷ ss) came = a ∷ message ss came
-message (written b ∷ ss) came = b ∷ message ss came
-message (read_slot ∷ ss) [] = message ss []
-message (read_slot ∷ ss) (b ∷ came) = b ∷ message ss came
+message (Start ∷ ss) came = message ss came
+message (Restart ∷ ss) came = message ss came
+message (Stop ∷ ss) came = message ss came
+message (Address a ∷ ss) came = a ∷ message ss came
+message (Written b ∷ ss) came = b ∷ message ss came
+message (ReadSlot ∷ ss) [] = message ss []
+message (ReadSlot ∷ ss) (b ∷ came) = b ∷ message ss came
 
 -- the code of a transfer, by what was asked and the bytes that came: so neighbouring operations of one direction have
 -- one address byte, and a write after reads has a code over the bytes that were read

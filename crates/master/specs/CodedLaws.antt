@@ -11,7 +11,8 @@ use Rattle.regs.specs.Left.{bytes_read}
 use Rattle.regs.specs.Log.{Each, expected}
 use Rattle.regs.specs.Program.{Outcome}
 use Rattle.regs.specs.Answers.{number}
-use Rattle.bus.specs.Bus.{Sign, START, RESTART, STOP, address_byte, written, read_slot}
+use Rattle.bus.specs.declared.Sign.{Sign}
+use Rattle.bus.specs.declared.Sign.TheVariants.{Start, Restart, Stop, Address, Written, ReadSlot}
 use Rattle.master.specs.Driver.{reason_of}
 use Rattle.master.specs.Operations.{Operation, writes, reads, Mode}
 use Rattle.master.specs.Operations.{Transfer, read, write, write_read, transaction, operations_of}
@@ -119,20 +120,20 @@ EmptyWrite = (mode : Mode) (address : ℕ) (t : Transfer ℕ) (before after : Li
 -- the read slots of a sequence
 unfoldable pub slots : List Sign → ℕ
 slots [] = 0
-slots (START ∷ ss) = slots ss
-slots (RESTART ∷ ss) = slots ss
-slots (STOP ∷ ss) = slots ss
-slots (address_byte a ∷ ss) = slots ss
-slots (written b ∷ ss) = slots ss
-slots (read_slot ∷ ss) = suc (slots ss)
+slots (Start ∷ ss) = slots ss
+slots (Restart ∷ ss) = slots ss
+slots (Stop ∷ ss) = slots ss
+slots (Address a ∷ ss) = slots ss
+slots (Written b ∷ ss) = slots ss
+slots (ReadSlot ∷ ss) = suc (slots ss)
 
 -- a bit that is flipped on the bus changes the code: of an address byte, of a written byte, of a byte that is read
 pub record FlipSeen : Type 0 where
   pub in_address : (before after : List Sign) (came : List ℕ) (a k : ℕ) → k < 8
-      → crc8 (message (before ++ address_byte (bit_xor a (2 ^ k)) ∷ after) came)
-      ≢ crc8 (message (before ++ address_byte a ∷ after) came)
+      → crc8 (message (before ++ Address (bit_xor a (2 ^ k)) ∷ after) came)
+      ≢ crc8 (message (before ++ Address a ∷ after) came)
   pub in_written : (before after : List Sign) (came : List ℕ) (b k : ℕ) → k < 8
-      → crc8 (message (before ++ written (bit_xor b (2 ^ k)) ∷ after) came)
-      ≢ crc8 (message (before ++ written b ∷ after) came)
+      → crc8 (message (before ++ Written (bit_xor b (2 ^ k)) ∷ after) came)
+      ≢ crc8 (message (before ++ Written b ∷ after) came)
   pub in_read : (ss : List Sign) (came : List ℕ) (i k : ℕ) → k < 8 → i < length came → i < slots ss
       → crc8 (message ss (flipped i k came)) ≢ crc8 (message ss came)

@@ -11,7 +11,8 @@ use Rattle.regs.specs.Registers.{DATA_CMD, RXFLR}
 use Rattle.regs.specs.Fields.{cmd, level}
 use Rattle.regs.specs.Left.{bytes_read}
 use Rattle.regs.specs.Log.{Each, Leaves, decode}
-use Rattle.bus.specs.Bus.{Sign, bus_sequence}
+use Rattle.bus.specs.declared.Sign.{Sign}
+use Rattle.bus.specs.Bus.{bus_sequence}
 use Rattle.master.specs.Operations.{Operation, writes, reads}
 use Rattle.master.specs.Sequence.{joined, sequence, told}
 use Rattle.master.specs.Coded.{message, code_of, with_code}

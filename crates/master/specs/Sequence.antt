@@ -2,7 +2,9 @@
 use Rattle.std.specs.Prelude.{ℕ, suc, ◌+◌, ◌/◌, ◌%◌, List, [], ◌∷◌, ◌++◌, map, eqb, replicate, if◌then◌else◌}
 use Rattle.bus.specs.declared.Direction.{Direction}
 use Rattle.bus.specs.declared.Direction.TheVariants.{Writing, Reading}
-use Rattle.bus.specs.Bus.{Sign, START, RESTART, STOP, address_byte, written, read_slot, addressed}
+use Rattle.bus.specs.declared.Sign.{Sign}
+use Rattle.bus.specs.declared.Sign.TheVariants.{Start, Restart, Stop, Address, Written, ReadSlot}
+use Rattle.bus.specs.Bus.{addressed}
 use Rattle.master.specs.Operations.{Operation, writes, reads}
 
 -- neighbouring writes become one, their bytes end to end; neighbouring reads become one, their lengths added
@@ -23,16 +25,16 @@ direction (reads len) = Reading
 
 -- an operation's written bytes or read slots
 abbrev pub payload : Operation ℕ → List Sign
-payload (writes bytes) = map written bytes
-payload (reads len) = replicate len read_slot
+payload (writes bytes) = map Written bytes
+payload (reads len) = replicate len ReadSlot
 
 -- each operation gives START if it is the first, else RESTART, then the address byte, then its written bytes or read slots; STOP comes last
 unfoldable pub sequence_from : Sign → ℕ → List (Operation ℕ) → List Sign
-sequence_from sign address [] = STOP ∷ []
-sequence_from sign address (o ∷ os) = addressed sign address (direction o) ++ (payload o ++ sequence_from RESTART address os)
+sequence_from sign address [] = Stop ∷ []
+sequence_from sign address (o ∷ os) = addressed sign address (direction o) ++ (payload o ++ sequence_from Restart address os)
 
 abbrev pub sequence : ℕ → List (Operation ℕ) → List Sign
-sequence address os = sequence_from START address os
+sequence address os = sequence_from Start address os
 
 -- what a sequence tells: the bytes and slots before its next START, RESTART
 -- or STOP, the operations from its next address byte on, and the address
@@ -56,17 +58,17 @@ starting a t = record {
 
 unfoldable pub told : List Sign → Told
 told [] = record { bytes = []; slots = 0; operations = []; address = 0 }
-told (START ∷ ss) = ending (told ss)
-told (RESTART ∷ ss) = ending (told ss)
-told (STOP ∷ ss) = ending (told ss)
-told (address_byte a ∷ ss) = starting a (told ss)
-told (written b ∷ ss) = record {
+told (Start ∷ ss) = ending (told ss)
+told (Restart ∷ ss) = ending (told ss)
+told (Stop ∷ ss) = ending (told ss)
+told (Address a ∷ ss) = starting a (told ss)
+told (Written b ∷ ss) = record {
   bytes = b ∷ (told ss).bytes;
   slots = (told ss).slots;
   operations = (told ss).operations;
   address = (told ss).address;
 }
-told (read_slot ∷ ss) = record {
+told (ReadSlot ∷ ss) = record {
   bytes = (told ss).bytes;
   slots = suc (told ss).slots;
   operations = (told ss).operations;

@@ -11,7 +11,8 @@ use lib.Seq.{length-take-le}
 use borrow.Author.Tests.{le-ltb, lt-ltb, ne_eqb}
 use Rattle.std.specs.Prelude.{if◌then◌else◌, Option, Some, None}
 use Rattle.regs.specs.Log.{decode}
-use Rattle.bus.specs.Bus.{Sign, bus_sequence}
+use Rattle.bus.specs.declared.Sign.{Sign}
+use Rattle.bus.specs.Bus.{bus_sequence}
 use Rattle.text_hex.specs.Appended.{Appended}
 use Rattle.svg_text.specs.Picture.{opening_text, head_text, svg_text, picture}
 use Rattle.answer_frames.specs.Frames.{frame_of, is_answer}

@@ -2,7 +2,8 @@
 -- the numbers of the lines that are no answer frames. This is the statement.
 use Rattle.std.specs.Prelude.{ℕ, List, [], ◌∷◌, ◌++◌, length, take, if◌then◌else◌}
 use Rattle.regs.specs.Log.{decode}
-use Rattle.bus.specs.Bus.{Sign, bus_sequence}
+use Rattle.bus.specs.declared.Sign.{Sign}
+use Rattle.bus.specs.Bus.{bus_sequence}
 use Rattle.text_hex.specs.Text.{lines}
 use Rattle.text_tables.specs.Ascii.{ascii}
 use Rattle.answer_frames.specs.Frames.{frame_of, is_answer}

@@ -11,6 +11,7 @@ ghost use Rattle.svg_lines.specs.Inner.Said.{Lent, SaidAs, last_warning};
 
 use answer_frames::{frame_in, is_answer};
 use answer_lines::{keep_on, no_frame, number_after, push_warning};
+use bus::Sign;
 use text_hex::text::Text;
 
 // How many lines came, and how much of the open call's log is used. None is used where the picture was drawn.
@@ -39,7 +40,7 @@ pub fn start() -> Kept
 }
 
 // The picture of the log's used part.
-fn push_picture(log: &[u32], used: usize, places: &mut [u32], out: &mut [u8]) -> usize
+fn push_picture(log: &[u32], used: usize, places: &mut [Sign], out: &mut [u8]) -> usize
     requires { (used ≤ length log.now)
         × (used ≤ LOG_WORDS)
         × (PLACES ≤ length places.old)
@@ -71,7 +72,7 @@ pub fn draw_line(
     text: &[u8],
     held: usize,
     log: &mut [u32],
-    places: &mut [u32],
+    places: &mut [Sign],
     out: &mut [u8],
 ) -> Said
     requires { Lent kept text.now held log.old places.old out.old }

@@ -4,11 +4,12 @@
 ghost use Rattle.std.specs.Prelude.{◌+◌, ◌*◌, ◌≤◌, ◌≡◌, length};
 ghost use Rattle.text_hex.specs.Added.{Room, Added};
 ghost use Rattle.text_hex.specs.Appended.{Appended};
-ghost use Rattle.svg_text.specs.Picture.{column, row, note_text, picture};
-ghost use Rattle.svg_text.specs.Inner.Drawn.{kind_width, words_text, words_last, words_svg};
+ghost use Rattle.svg_text.specs.Picture.{last_row, signs_text, note_text, svg_text, picture};
 
+use bus::Sign;
 use svg_text::head::{push_head, push_number};
-use svg_text::sign::push_word;
+use svg_text::place::{Place, width_of};
+use svg_text::sign::push_sign;
 use text_hex::text::Text;
 
 // How many signs are drawn, how many entries a sequence may have, and the room for its text.
@@ -18,69 +19,8 @@ pub const MOST: usize = 32768;
 
 pub const ROOM: usize = 53000;
 
-#[tactic(auto, unfolding(svg_text::specs::Inner::Drawn::kind_width))]
-fn width_of(kind: u32) -> u32
-    ensures same { result ≡ kind_width kind }
-    ensures narrow { result ≤ 108 }
-{
-    match kind {
-        1..=3 => 24,
-        _ => 108,
-    }
-}
-
-// Where a sign stands: in the row of the one before it, or at the start of the next.
-fn column_of(x: u32, w: u32) -> u32
-    requires { (x ≤ 800)
-        × (w ≤ 108) }
-    ensures { (result ≡ column x w)
-        × (result + w ≤ 800) }
-{
-    if x + w > 800 { 60 } else { x }
-}
-
-fn row_of(x: u32, y: u32, w: u32) -> u32
-    requires { (x ≤ 800)
-        × (w ≤ 108)
-        × (y ≤ 200000) }
-    ensures { (result ≡ row x y w)
-        × (result ≤ y + 120) }
-{
-    if x + w > 800 { y + 120 } else { y }
-}
-
-// Where the last row of the places stands.
-fn last_row(places: &[u32]) -> u32
-    requires { length places.now ≤ 256 }
-    ensures same { result ≡ words_last 60 70 places.now }
-    ensures low { result ≤ 70 + 120 * length places.now }
-{
-    let mut x: u32 = 60;
-    let mut y: u32 = 70;
-    for word in places {
-        let w = width_of(*word / 65536);
-        let c = column_of(x, w);
-        y = row_of(x, y, w);
-        x = c + w;
-    }
-    y
-}
-
-fn push_signs(text: &mut Text, places: &[u32])
-    requires room { Room (196 * length places.now) text.old }
-    requires few { length places.now ≤ 256 }
-    ensures { Added text.old (words_text 60 70 places.now) (196 * length places.now) text.new }
-{
-    let mut x: u32 = 60;
-    let mut y: u32 = 70;
-    for word in places {
-        let w = width_of(*word / 65536);
-        let c = column_of(x, w);
-        y = row_of(x, y, w);
-        push_word(text, c, y, *word);
-        x = c + w;
-    }
-}
+// Where the first sign stands.
+const FIRST: Place = Place { x: 60, y: 70 };
 
 // That only the first signs are drawn.
 #[tactic(auto, using(text_hex::proofs::Adding::no_text), unfolding(svg_text::specs::Picture::note_text))]
@@ -97,32 +37,67 @@ fn push_note(text: &mut Text, y: u32, n: u32)
     }
 }
 
-fn push_svg(text: &mut Text, places: &[u32], entries: u32)
-    requires room { Room 53000 text.old }
-    requires few { length places.now ≤ 256 }
-    ensures { Added text.old (words_svg places.now entries) 53000 text.new }
-{
-    let y = last_row(places);
-    push_head(text, y + 130);
-    push_signs(text, places);
-    push_note(text, y + 124, entries);
-    text.push_text(b"</svg>\n");
+// The signs that are drawn, and how many the whole sequence has.
+#[derive(Clone, Copy)]
+struct Drawn<'a> {
+    signs: &'a [Sign],
+    entries: u32,
+    ghost few: { length signs.now ≤ 256 },
 }
 
-fn svg(places: &[u32], entries: u32, out: &mut [u8]) -> usize
-    requires room { 53000 ≤ length out.old }
-    requires few { length places.now ≤ 256 }
-    ensures { Appended out.old 0 (words_svg places.now entries) 53000 out.new result }
-{
-    let mut text = Text::new(out, 0);
-    push_svg(&mut text, places, entries);
-    text.at
+impl Drawn<'_> {
+    // Where the last row of the signs stands.
+    fn last_row(self) -> u32
+        ensures same { result ≡ last_row 60 70 self.entry.signs.now }
+        ensures low { result ≤ 70 + 120 * length self.entry.signs.now }
+    {
+        let mut end = FIRST;
+        for &sign in self.signs {
+            let width = width_of(sign);
+            end = end.of_next(width).behind(width);
+        }
+        end.y
+    }
+
+    fn push_signs(self, text: &mut Text)
+        requires { Room (196 * length self.signs.now) text.old }
+        ensures { Added text.old (signs_text 60 70 self.entry.signs.now) (196 * length self.entry.signs.now) text.new }
+    {
+        let mut end = FIRST;
+        for &sign in self.signs {
+            let width = width_of(sign);
+            let place = end.of_next(width);
+            push_sign(text, place, sign);
+            end = place.behind(width);
+        }
+    }
+
+    fn push(self, text: &mut Text)
+        requires { Room 53000 text.old }
+        ensures { Added text.old (svg_text self.entry.signs.now self.entry.entries) 53000 text.new }
+    {
+        let y = self.last_row();
+        push_head(text, y + 130);
+        self.push_signs(text);
+        push_note(text, y + 124, self.entries);
+        text.push_text(b"</svg>\n");
+    }
+
+    // The whole text, from the start of a buffer on. Says where it ends.
+    fn put(self, out: &mut [u8]) -> usize
+        requires { 53000 ≤ length out.old }
+        ensures { Appended out.old 0 (svg_text self.entry.signs.now self.entry.entries) 53000 out.new result }
+    {
+        let mut text = Text::new(out, 0);
+        self.push(&mut text);
+        text.at
+    }
 }
 
 // The picture of a log, in a buffer lent for it; its sequence is put into
 // another. Says how long the text is: 0 where the log puts nothing on the bus.
 #[tactic(auto, using(text_hex::proofs::Appends::nothing), unfolding(svg_text::specs::Picture::picture))]
-pub fn picture(log: &[u32], places: &mut [u32], out: &mut [u8]) -> usize
+pub fn picture(log: &[u32], places: &mut [Sign], out: &mut [u8]) -> usize
     ensures { Appended out.old 0
         (picture log.now (length places.old) (length out.old))
         (length out.old) out.new result }
@@ -131,5 +106,9 @@ pub fn picture(log: &[u32], places: &mut [u32], out: &mut [u8]) -> usize
     if n > MOST || places.len() < MOST || out.len() < ROOM || n == 0 {
         return 0;
     }
-    svg(&places[..n.min(DRAWN)], n as u32, out)
+    let drawn = Drawn {
+        signs: &places[..n.min(DRAWN)],
+        entries: n as u32,
+    };
+    drawn.put(out)
 }

@@ -1,4 +1,3 @@
 -- A bus sequence as a picture.
 pub mod Texts
 pub mod Picture
-pub mod Inner

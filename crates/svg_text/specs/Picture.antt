@@ -1,7 +1,9 @@
 -- The picture of a bus sequence: SVG of a fixed width, a row of lanes below the other, and in each row the signs from left to right.
 use Rattle.std.specs.Prelude.{ℕ, ◌+◌, ◌/◌, ◌%◌, List, [], ◌∷◌, ◌++◌, eqb, ltb, length, take, if◌then◌else◌}
 use Rattle.regs.specs.Log.{decode}
-use Rattle.bus.specs.Bus.{Sign, START, RESTART, STOP, address_byte, written, read_slot, bus_sequence}
+use Rattle.bus.specs.declared.Sign.{Sign}
+use Rattle.bus.specs.declared.Sign.TheVariants.{Start, Restart, Stop, Address, Written, ReadSlot}
+use Rattle.bus.specs.Bus.{bus_sequence}
 use Rattle.text_hex.specs.Text.{hex2}
 use Rattle.text_tables.specs.Decimal.{digits}
 use Rattle.text_tables.specs.Ascii.{ascii}
@@ -45,23 +47,23 @@ direction_text b = if eqb (b % 2) 0 then 87 else 82
 
 -- letters are those of the shapes: a, w, S, R, P and r
 abbrev pub sign_text : ℕ → ℕ → Sign → List ℕ
-sign_text x y (address_byte b) = byte_text 97 x y b (hex2 (b / 2) ++ (32 ∷ direction_text b ∷ []))
-sign_text x y (written b) = byte_text 119 x y b (hex2 b)
-sign_text x y START = shape_text 83 x y
-sign_text x y RESTART = shape_text 82 x y
-sign_text x y STOP = shape_text 80 x y
-sign_text x y read_slot = shape_text 114 x y
+sign_text x y (Address b) = byte_text 97 x y b (hex2 (b / 2) ++ (32 ∷ direction_text b ∷ []))
+sign_text x y (Written b) = byte_text 119 x y b (hex2 b)
+sign_text x y Start = shape_text 83 x y
+sign_text x y Restart = shape_text 82 x y
+sign_text x y Stop = shape_text 80 x y
+sign_text x y ReadSlot = shape_text 114 x y
 
 -- ---- signs one after the other
 
 -- in proportion: a byte is nine clocks, a condition two
 abbrev pub width : Sign → ℕ
-width (address_byte b) = 108
-width (written b) = 108
-width START = 24
-width RESTART = 24
-width STOP = 24
-width read_slot = 108
+width (Address b) = 108
+width (Written b) = 108
+width Start = 24
+width Restart = 24
+width Stop = 24
+width ReadSlot = 108
 
 -- a sign that would end behind 800 begins the next row: its x and y, where the one before it ended at x in the row y
 abbrev pub column : ℕ → ℕ → ℕ

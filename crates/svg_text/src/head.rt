@@ -15,6 +15,7 @@ pub fn push_number(text: &mut Text, n: u32)
     push_digits(text, 6, u64::from(n));
 }
 
+#[tactic(auto, unfolding(crate::specs::Texts::style_text))]
 fn push_style(text: &mut Text)
     requires { Room 253 text.old }
     ensures { Added text.old style_text 253 text.new }
@@ -35,6 +36,7 @@ fn push_style(text: &mut Text)
     );
 }
 
+#[tactic(auto, unfolding(crate::specs::Texts::conditions_text))]
 fn push_conditions(text: &mut Text)
     requires { Room 665 text.old }
     ensures { Added text.old conditions_text 665 text.new }
@@ -54,6 +56,7 @@ fn push_conditions(text: &mut Text)
     );
 }
 
+#[tactic(auto, unfolding(crate::specs::Texts::bytes_text))]
 fn push_bytes(text: &mut Text)
     requires { Room 558 text.old }
     ensures { Added text.old bytes_text 558 text.new }
@@ -71,6 +74,7 @@ fn push_bytes(text: &mut Text)
     );
 }
 
+#[tactic(auto, unfolding(crate::specs::Texts::legend_text))]
 fn push_legend(text: &mut Text)
     requires { Room 609 text.old }
     ensures { Added text.old legend_text 609 text.new }
@@ -106,6 +110,7 @@ fn push_opening(text: &mut Text, height: u32)
     );
 }
 
+#[tactic(auto, using(text_hex::proofs::Adding::at_most), unfolding(crate::specs::Picture::head_text))]
 pub fn push_head(text: &mut Text, height: u32)
     requires { Room 2500 text.old }
     ensures { Added text.old (head_text height) 2500 text.new }

@@ -2,4 +2,5 @@
 #![tactic(auto)]
 
 pub mod head; // what is the same of every picture
+pub mod place; // where signs stand
 pub mod sign; // a sign at its place

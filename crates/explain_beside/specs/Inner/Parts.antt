@@ -4,9 +4,9 @@ use Rattle.regs.specs.Fields.{dat}
 use Rattle.bus.specs.declared.Direction.{Direction}
 use Rattle.bus.specs.declared.Direction.TheVariants.{Writing, Reading}
 use Rattle.bus.specs.declared.Condition.{Condition}
-use Rattle.bus.specs.declared.Condition.TheVariants.{Start, Restart}
-use Rattle.bus.specs.Bus.{direction_bit}
-use Rattle.explain_bus.specs.Line.{name_text, address_text, byte_text, run_text}
+use Rattle.bus.specs.declared.Sign.TheVariants.{Stop}
+use Rattle.bus.specs.Bus.{direction_bit, condition_sign}
+use Rattle.explain_bus.specs.Line.{address_text, byte_text, run_text, sign_text}
 
 abbrev pub towards : Bool → Direction
 towards read = if read then Reading else Writing
@@ -14,14 +14,9 @@ towards read = if read then Reading else Writing
 abbrev pub direction_letter_of : Bool → ℕ
 direction_letter_of read = if read then 114 else 119
 
--- the row of a condition's name
-abbrev pub condition_row : Condition → ℕ
-condition_row Start = 0
-condition_row Restart = 1
-
 -- START or RESTART, and the address byte
 unfoldable pub addressed_text : Condition → ℕ → Bool → List ℕ
-addressed_text condition address read = name_text (condition_row condition)
+addressed_text condition address read = sign_text (condition_sign condition)
     ++ address_text (address * 2 + direction_bit (towards read))
 
 unfoldable pub opening_text : Option Condition → ℕ → Bool → List ℕ
@@ -32,4 +27,4 @@ abbrev pub data_text : Bool → ℕ → List ℕ
 data_text read w = if read then run_text 1 else byte_text (dat w)
 
 abbrev pub closing_text : Bool → List ℕ
-closing_text last = if last then name_text 2 else []
+closing_text last = if last then sign_text Stop else []

@@ -1,5 +1,6 @@
 -- What a call of `explain_line` leaves and prints. Only contracts cite this.
 use Rattle.std.specs.Prelude.{ℕ, ◌+◌, ◌≤◌, List, ◌≡◌, length, take, None}
+use Rattle.bus.specs.declared.Sign.{Sign}
 use Rattle.answer_lines.specs.Lines.{LOG_WORDS}
 use Rattle.explain_lines.specs.Printed.{Open, open_after, line_text, LINE_ROOM}
 use Rattle.explain_lines.specs.declared.Call.{Call}
@@ -25,7 +26,7 @@ BUS_ROOM = 294921
 
 -- the buffers: a line that was cut at its buffer's end is longer than every answer frame, the log has its 8,192
 -- entries, and there is room for the signs, and for a bus line with the answer behind it
-pub record Lent (c : Call) (text : List ℕ) (held : ℕ) (log places out : List ℕ) : Type 0 where
+pub record Lent (c : Call) (text : List ℕ) (held : ℕ) (log : List ℕ) (places : List Sign) (out : List ℕ) : Type 0 where
   pub cut : 8195 ≤ length text
   pub line : held ≤ length text
   pub words : length log ≡ LOG_WORDS

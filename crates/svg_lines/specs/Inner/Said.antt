@@ -1,7 +1,8 @@
 -- What a call of `draw_line` leaves and writes. Only contracts cite this.
 use Rattle.std.specs.Prelude.{ℕ, ◌≤◌, List, [], ◌≡◌, eqb, ltb, length, take, if◌then◌else◌, Option, Some, None}
 use Rattle.regs.specs.Log.{decode}
-use Rattle.bus.specs.Bus.{Sign, bus_sequence}
+use Rattle.bus.specs.declared.Sign.{Sign}
+use Rattle.bus.specs.Bus.{bus_sequence}
 use Rattle.svg_text.specs.Picture.{svg_text}
 use Rattle.answer_lines.specs.Lines.{number_after, LOG_WORDS}
 use Rattle.svg_lines.specs.Drawn.{Turn, draws, goes, turn, nothing_drawn}
@@ -35,7 +36,7 @@ log_picture log = picture_of (bus_sequence (decode log))
 
 -- the buffers: a line that was cut at its buffer's end is longer than every answer frame, the log has its 8,192
 -- entries, and there is room for the signs and for the picture
-pub record Lent (o : Kept) (text : List ℕ) (held : ℕ) (log places out : List ℕ) : Type 0 where
+pub record Lent (o : Kept) (text : List ℕ) (held : ℕ) (log : List ℕ) (places : List Sign) (out : List ℕ) : Type 0 where
   pub cut : 8195 ≤ length text
   pub line : held ≤ length text
   pub words : length log ≡ LOG_WORDS

@@ -1,10 +1,10 @@
--- `picture`: the tests are those of the definition `picture`; `drawn_is` (proofs/Bridge.antt) says that the words
--- that are drawn are the first 256 signs of the bus sequence.
+-- `picture`: the tests are those of the definition `picture`; `first_held` (proofs/Rows.antt) says that what is
+-- drawn are the first 256 signs of the bus sequence.
 use native.Mathlib.Omega.{arith}
 use borrow.Author.Tests.{le-ltb, ne_eqb}
 use Rattle.text_hex.proofs.Appends.{within}
 use Rattle.svg_text.specs.Picture.{picture}
-use Rattle.svg_picture.proofs.Bridge.{drawn_is}
+use Rattle.svg_picture.proofs.Rows.{first_held}
 use Rattle.svg_picture.proofs.picture.Goals as goal
 
 pub returns : goal.returns
@@ -16,7 +16,7 @@ returns c = rw (
   le-ltb _ _ c.if-places-lt-MOST.false,
   le-ltb _ _ c.if-out-lt-ROOM.false,
   ne_eqb _ _ c.if-n-eq0.false,
-  ← drawn_is _ _ c.bus_sequence-n.ensures
+  ← first_held _ _ c.bus_sequence-n.ensures
       (omega (arith, c.if-n-gt-MOST.false, c.if-places-lt-MOST.false)) c.bus_sequence-n.auto.out
       c.min.ensures,
-) (within _ c.if-out-lt-ROOM.false c.svg.ensures)
+) (within _ c.if-out-lt-ROOM.false c.put.ensures)

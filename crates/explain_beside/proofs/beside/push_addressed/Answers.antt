@@ -6,6 +6,6 @@ use Rattle.explain_beside.proofs.beside.push_addressed.Goals as goal
 
 pub returns : goal.returns
 unfolding addressed_text
-returns c = rw (address_is, ← c.letter.ensures, ← c.row_of.ensures.row)
-    (both c.push_name.ensures
+returns c = rw (address_is, ← c.letter.ensures, ← c.from.ensures)
+    (both c.push_sign.ensures
     (both c.push.ensures (both c.push_hex2.ensures c.push-2.ensures)))

@@ -1,12 +1,10 @@
 -- `bus_line`: the three tests are the conditions of `bus_line`, and the first two put the whole sequence in
--- the places (`sequence_held` of proofs/Signs.antt). `line_is` of proofs/Fits.antt: the text read from the
--- words is the sequence's, as every value fits half a word.
+-- the places (`held` of proofs/Signs.antt).
 use Rattle.std.proofs.Common.{arith}
 use borrow.Author.Tests.{le-ltb}
 use Rattle.text_hex.proofs.Appends.{within}
 use Rattle.explain_bus.specs.Line.{bus_line}
-use Rattle.explain_bus.proofs.Signs.{sequence_held}
-use Rattle.explain_bus.proofs.Fits.{line_is}
+use Rattle.explain_bus.proofs.Signs.{held}
 use Rattle.explain_bus.proofs.line.bus_line.Goals as goal
 
 pub returns : goal.returns
@@ -17,8 +15,7 @@ returns c = rw (
   ← c.bus_sequence-n.auto.out,
   le-ltb _ _ c.if-places-lt-MOST.false,
   le-ltb _ _ c.if-out-lt-ROOM.false,
-  ← line_is,
-  ← sequence_held _ _ c.bus_sequence-n.ensures
+  ← held _ _ c.bus_sequence-n.ensures
       (omega (arith, c.if-n-gt-MOST.false, c.if-places-lt-MOST.false)) c.bus_sequence-n.auto.out,
 ) (within _ (omega (arith, c.if-out-lt-ROOM.false))
     c.sequence.ensures)
