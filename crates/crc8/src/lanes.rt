@@ -1,10 +1,9 @@
 // The code of a long message: it is folded into 64 lanes, each of every 64th byte, with the same code.
 ghost use Rattle.std.specs.Prelude.{◌<◌, ◌≤◌, ◌≡◌, length, take};
 ghost use Rattle.crc8.specs.Crc8.{crc8_from, crc8};
-ghost use Rattle.crc8.specs.Inner.Codes.{Codes};
 ghost use Rattle.crc8.specs.Inner.Lanes.{LANES, after_zero, after_four, taken_in};
 
-use super::crc8_by;
+use super::Table;
 
 // The register after a bit 0.
 fn after_zero(crc: u8) -> u8
@@ -44,29 +43,27 @@ fn first_block(start: u8, bytes: &[u8]) -> [u8; 64]
     lanes
 }
 
-// The code of the lanes, quarter by quarter. A lookup waits for the one before it, and no quarter waits for
-// another, so four go side by side; 16 zero bytes act as one zero bit, so `after_zero` joins them.
-fn code_of_lanes(table: &[u8; 256], lanes: &[u8; 64]) -> u8
-    requires { Codes table.now }
-    ensures { result ≡ crc8 lanes.now }
-{
-    let (quarters, _) = lanes.as_chunks::<16>();
-    quarters.iter().fold(
-        0,
-        |crc, quarter| after_zero(crc) ^ crc8_by(table, 0, quarter),
-    )
-}
-
-// The code of a message by the lanes.
-pub fn crc8_by_lanes(table: &[u8; 256], start: u8, bytes: &[u8]) -> u8
-    requires { Codes table.now × (0 < length bytes.now) }
-    ensures { result ≡ crc8_from start bytes.now }
-{
-    let (first, rest) = bytes.split_at((bytes.len() - 1) % 64 + 1);
-    let (blocks, _) = rest.as_chunks::<64>();
-    let mut lanes = first_block(start, first);
-    for block in blocks {
-        take_in(&mut lanes, block);
+impl Table {
+    // The code of the lanes, quarter by quarter. A lookup waits for the one before it, and no quarter waits
+    // for another, so four go side by side; 16 zero bytes act as one zero bit, so `after_zero` joins them.
+    fn code_of_lanes(&self, lanes: &[u8; 64]) -> u8
+        ensures { result ≡ crc8 lanes.now }
+    {
+        let (quarters, _) = lanes.as_chunks::<16>();
+        quarters.iter().fold(0, |crc, quarter| after_zero(crc) ^ self.crc8_by(0, quarter))
     }
-    code_of_lanes(table, &lanes)
+
+    // The code of a message by the lanes.
+    pub fn crc8_by_lanes(&self, start: u8, bytes: &[u8]) -> u8
+        requires { 0 < length bytes.now }
+        ensures { result ≡ crc8_from start bytes.now }
+    {
+        let (first, rest) = bytes.split_at((bytes.len() - 1) % 64 + 1);
+        let (blocks, _) = rest.as_chunks::<64>();
+        let mut lanes = first_block(start, first);
+        for block in blocks {
+            take_in(&mut lanes, block);
+        }
+        self.code_of_lanes(&lanes)
+    }
 }

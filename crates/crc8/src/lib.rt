@@ -7,10 +7,16 @@ ghost use Rattle.std.specs.Prelude.{◌≡◌};
 ghost use Rattle.crc8.specs.Crc8.{after_byte, crc8_from};
 ghost use Rattle.crc8.specs.Inner.Codes.{Codes};
 
-use lanes::crc8_by_lanes;
+// A table of the codes of single bytes. It is made once for a message and lent: a constant is stored
+// anew wherever it is used.
+#[derive(Drop)]
+struct Table {
+    entries: [u8; 256],
+    ghost right: { Codes entries },
+}
 
 // The code of each byte alone.
-const TABLE: [u8; 256] = [
+const CODES: [u8; 256] = [
     0x00, 0x07, 0x0E, 0x09, 0x1C, 0x1B, 0x12, 0x15, 0x38, 0x3F, 0x36, 0x31, 0x24, 0x23, 0x2A, 0x2D,
     0x70, 0x77, 0x7E, 0x79, 0x6C, 0x6B, 0x62, 0x65, 0x48, 0x4F, 0x46, 0x41, 0x54, 0x53, 0x5A, 0x5D,
     0xE0, 0xE7, 0xEE, 0xE9, 0xFC, 0xFB, 0xF2, 0xF5, 0xD8, 0xDF, 0xD6, 0xD1, 0xC4, 0xC3, 0xCA, 0xCD,
@@ -29,19 +35,26 @@ const TABLE: [u8; 256] = [
     0xDE, 0xD9, 0xD0, 0xD7, 0xC2, 0xC5, 0xCC, 0xCB, 0xE6, 0xE1, 0xE8, 0xEF, 0xFA, 0xFD, 0xF4, 0xF3,
 ];
 
-// The table, to be lent. A constant has no contract: this function's holds all of its entries.
-fn table() -> [u8; 256]
-    ensures { Codes result }
-{
-    TABLE
-}
+impl Table {
+    fn new() -> Table {
+        Table { entries: CODES }
+    }
 
-// The register after a byte, by the table.
-fn looked_up(table: &[u8; 256], crc: u8, byte: u8) -> u8
-    requires { Codes table.now }
-    ensures { result ≡ after_byte crc byte }
-{
-    table[(crc ^ byte) as usize]
+    // The register after a byte, by the table.
+    fn looked_up(&self, crc: u8, byte: u8) -> u8
+        ensures { result ≡ after_byte crc byte }
+    {
+        self.entries[(crc ^ byte) as usize]
+    }
+
+    // Takes the bytes of a message one after the other.
+    fn crc8_by(&self, start: u8, bytes: &[u8]) -> u8
+        ensures { result ≡ crc8_from start bytes.now }
+    {
+        bytes
+            .iter()
+            .fold(start, |crc, byte| self.looked_up(crc, *byte))
+    }
 }
 
 // The register after one byte of the message. It makes the table
@@ -49,28 +62,16 @@ fn looked_up(table: &[u8; 256], crc: u8, byte: u8) -> u8
 pub fn next(crc: u8, byte: u8) -> u8
     ensures { result ≡ after_byte crc byte }
 {
-    let t = table();
-    looked_up(&t, crc, byte)
+    Table::new().looked_up(crc, byte)
 }
 
-// Takes the bytes of a message one after the other.
-fn crc8_by(table: &[u8; 256], start: u8, bytes: &[u8]) -> u8
-    requires { Codes table.now }
-    ensures { result ≡ crc8_from start bytes.now }
-{
-    bytes
-        .iter()
-        .fold(start, |crc, byte| looked_up(table, crc, *byte))
-}
-
-// The code of a message from a start value on. The table is made once for the whole message: a constant is
-// stored anew wherever it is used. For few bytes the lanes cost more than they save.
+// The code of a message from a start value on. For few bytes the lanes cost more than they save.
 pub fn crc8_from(start: u8, bytes: &[u8]) -> u8
     ensures { result ≡ crc8_from start bytes.now }
 {
-    let t = table();
+    let table = Table::new();
     if bytes.len() < 32 {
-        return crc8_by(&t, start, bytes);
+        return table.crc8_by(start, bytes);
     }
-    crc8_by_lanes(&t, start, bytes)
+    table.crc8_by_lanes(start, bytes)
 }

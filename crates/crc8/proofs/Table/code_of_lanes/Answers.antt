@@ -1,10 +1,10 @@
--- `crc8::lanes::code_of_lanes` meets its contract: it is the fold over the quarters (proofs/Quarters.antt).
+-- `crc8::Table::code_of_lanes` meets its contract: it is the fold over the quarters (proofs/Quarters.antt).
 use borrow.Author.Rules.{rules}
 use mathlib.Core.Path.{◌≡◌}
 use Rattle.std.specs.Prelude.{fold}
 use Rattle.crc8.specs.Crc8.{crc8}
 use Rattle.crc8.proofs.Quarters.{next_register, quarters}
-use Rattle.crc8.proofs.lanes.code_of_lanes.Goals as goal
+use Rattle.crc8.proofs.Table.code_of_lanes.Goals as goal
 
 pub returns : goal.returns
 returns c =
