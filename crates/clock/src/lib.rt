@@ -68,6 +68,7 @@ fn high_of(p: u32, low: u32) -> u32
 }
 
 // The spike count. The quotient is cut to 8 bits as in the Rust.
+#[tactic(auto, unfolding(clock_setting::specs::SetConfig::spklen))]
 fn spklen_of(lcnt: u32) -> u32
     ensures { result ≡ spklen lcnt }
 {
@@ -96,20 +97,6 @@ fn if_reaches(hcnt: u32, lcnt: u32) -> Result<(), Refusal>
     Ok(())
 }
 
-// Whether the hold time is short enough for the low count, and 1 MHz has a clock above 32 MHz.
-#[tactic(auto, unfolding(crate::specs::Inner::Machine::holds))]
-fn if_holds(frequency: u32, clk: u32, lcnt: u32, hold: u16) -> Result<(), Refusal>
-    ensures { result ≡ holds frequency clk lcnt hold }
-{
-    if 1_000_000 <= frequency && clk < 32_000_001 {
-        return Err(Refusal::ClockTooSlow);
-    }
-    if lcnt < u32::from(hold) + 2 {
-        return Err(Refusal::ClockTooSlow);
-    }
-    Ok(())
-}
-
 impl Wanted {
     // What is tested before the first access.
     fn new(frequency: u32, clk: u32) -> Result<Wanted, Refusal>
@@ -130,6 +117,7 @@ impl Wanted {
     }
 
     // The period of the bus in periods of the clock.
+    #[tactic(auto, unfolding(clock_setting::specs::SetConfig::period))]
     fn period(self) -> u32
         ensures value { result ≡ period self.frequency self.clk }
         ensures in_range { result ≤ 1431655765 }
@@ -149,6 +137,20 @@ impl Wanted {
         }
     }
 
+    // Whether the hold time is short enough for the low count, and 1 MHz has a clock above 32 MHz.
+    #[tactic(auto, unfolding(crate::specs::Inner::Machine::holds))]
+    fn if_holds(self, lcnt: u32, hold: u16) -> Result<(), Refusal>
+        ensures { result ≡ holds self.frequency self.clk lcnt hold }
+    {
+        if 1_000_000 <= self.frequency && self.clk < 32_000_001 {
+            return Err(Refusal::ClockTooSlow);
+        }
+        if lcnt < u32::from(hold) + 2 {
+            return Err(Refusal::ClockTooSlow);
+        }
+        Ok(())
+    }
+
     // What these come to.
     fn setting(self) -> Result<Counts, Refusal>
         ensures { result ≡ setting self.frequency self.clk }
@@ -159,7 +161,7 @@ impl Wanted {
         let hold = self.hold();
         if_fits(hcnt, lcnt)?;
         if_reaches(hcnt, lcnt)?;
-        if_holds(self.frequency, self.clk, lcnt, hold)?;
+        self.if_holds(lcnt, hold)?;
         Ok(Counts {
             hcnt,
             lcnt,
@@ -169,7 +171,8 @@ impl Wanted {
     }
 }
 
-// The first access of clock setup, or its refusal.
+// The first access of clock setup, or its refusal. `frequency` and `clk` stay two numbers where they come
+// in: a `Wanted` has only those in range, and callers, C among them, may give any.
 pub fn start(frequency: u32, clk: u32) -> ClockPoint
     ensures { result ≡ start_of frequency clk }
 {
@@ -216,11 +219,12 @@ pub fn advance(p: ClockPoint, v: u32) -> ClockPoint
         ClockPoint::Hold(n) => ClockPoint::SetHold(regs::fields::with_sda_tx_hold(v, n.hold)),
         ClockPoint::SetHold(_) => ClockPoint::Enable,
         ClockPoint::Enable => ClockPoint::Finished(Answer::Accepted),
-        ClockPoint::Finished(a) => ClockPoint::Finished(a),
+        ClockPoint::Finished(_) => p,
     }
 }
 
-// The steps from a point to the end.
+// The steps from a point to the end. `readings` and `log` stay two slices, as the public calls take them. The
+// loop stays a `loop`: it ends with the answer, or where the log is full, and no iterator counts its steps.
 fn drive(from: ClockPoint, readings: &[u32], log: &mut [u32]) -> Ran
     ensures { final result.reply result.entries result.used log.new [] tt
         ≡ ran machine readings.now (length log.old / 2) from 0 0 log.old

@@ -1,13 +1,9 @@
--- `clock::spklen_of` meets its contract.
+-- `spklen_of`: the mask cuts the quotient to 8 bits.
 use Prim.Native.Nat.{◌/◌, ◌^◌}
 use lib.Bits.{and_mask}
 use Rattle.clock_setting.specs.SetConfig.{spklen}
-use borrow.Author.Tests.{le-ltb, lt-ltb}
+use borrow.Author.Tests.{le-ltb}
 use Rattle.clock.proofs.spklen_of.Goals as goal
-
-pub returns-then-lcnt-lt16 : goal.returns-then-lcnt-lt16
-unfolding spklen
-returns-then-lcnt-lt16 c = simp (lt-ltb _ _ c.if-lcnt-lt16.true)
 
 pub returns-else-lcnt-lt16 : goal.returns-else-lcnt-lt16
 unfolding spklen
