@@ -1,2 +1,3 @@
 -- Definitions that only the contracts of inner functions cite: no public statement rests on believing them.
 pub mod Words
+pub mod Whole

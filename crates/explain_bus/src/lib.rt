@@ -4,3 +4,4 @@
 
 pub mod line; // the text
 pub mod kept; // the log
+pub mod sequence; // the sequence

@@ -5,6 +5,7 @@ ghost use Rattle.text_hex.specs.Appended.{Appended};
 ghost use Rattle.explain_bus.specs.Line.{address_text, byte_text, run_text, sign_text, signs_text};
 ghost use Rattle.explain_bus.specs.Line.{sequence_text, bus_line};
 
+use super::sequence::Sequence;
 use bus::Sign;
 use text_hex::text::Text;
 use text_tables::decimal::push_digits;
@@ -65,64 +66,21 @@ pub fn push_sign(text: &mut Text, sign: Sign)
     }
 }
 
-fn push_signs(text: &mut Text, signs: &[Sign])
-    requires room { Room (9 * length signs.now) text.old }
-    requires few { length signs.now ≤ 32768 }
-    ensures { Added text.old (signs_text 0 signs.now) (9 * length signs.now) text.new }
-{
-    let mut run: u32 = 0;
-    for &sign in signs {
-        match sign {
-            Sign::ReadSlot => run += 1,
-            _ => {
-                push_run(text, run);
-                push_sign(text, sign);
-                run = 0;
-            }
-        }
-    }
-    push_run(text, run);
-}
-
-#[tactic(auto, using(text_hex::proofs::Adding::no_text), unfolding(crate::specs::Line::sequence_text))]
-fn push_sequence(text: &mut Text, signs: &[Sign])
-    requires room { Room 294921 text.old }
-    requires few { length signs.now ≤ 32768 }
-    ensures { Added text.old (sequence_text signs.now) 294921 text.new }
-{
-    if signs.len() == 0 {
-        return;
-    }
-    text.push_text(b"bus");
-    push_signs(text, signs);
-    text.push(b'\n');
-}
-
-fn sequence(signs: &[Sign], out: &mut [u8]) -> usize
-    requires room { 294921 ≤ length out.old }
-    requires few { length signs.now ≤ 32768 }
-    ensures { Appended out.old 0 (sequence_text signs.now) 294921 out.new result }
-{
-    let mut text = Text::new(out, 0);
-    push_sequence(&mut text, signs);
-    text.at
-}
-
-// How many entries a sequence may have, and the room for its text.
-pub const MOST: usize = 32768;
-
+// The room for the text of a sequence.
 pub const ROOM: usize = 294921;
 
-// The line of a log, in a buffer lent for it; its sequence is put into another.
-#[tactic(auto, using(text_hex::proofs::Appends::nothing), unfolding(crate::specs::Line::bus_line))]
+// The line of a log, in a buffer lent for it; its sequence is put into another. Says where the line ends.
+// That stays a number, 0 where there is no line: an empty text ends there.
 pub fn bus_line(log: &[u32], places: &mut [Sign], out: &mut [u8]) -> usize
     ensures { Appended out.old 0
         (bus_line log.now (length places.old) (length out.old))
         (length out.old) out.new result }
 {
-    let n = bus::bus_sequence(log, places);
-    if n > MOST || places.len() < MOST || out.len() < ROOM {
+    let Some(sequence) = Sequence::of(log, places) else {
+        return 0;
+    };
+    if out.len() < ROOM {
         return 0;
     }
-    sequence(&places[..n], out)
+    sequence.put(out)
 }

@@ -5,15 +5,17 @@ use native.Mathlib.Numerals.{add-one}
 use mathlib.Core.Bool.{Bool, true, false}
 use mathlib.Core.List.{List, [], ◌∷◌, ◌++◌}
 use mathlib.Core.Path.{◌≡◌, refl, sym, ap, ◌∙◌}
-use lib.Dec.{ltb}
+use lib.Dec.{ltb, eqb}
 use lib.ListN.{length, take, drop, get_or, drop_of_length-le}
-use lib.Seq.{sets, drop-cons, take_all, take-take}
+use lib.Seq.{drop-cons, take_all}
 use borrow.Author.Tests.{ltb-true, ltb-false}
-use Rattle.std.specs.Prelude.{min}
+use Rattle.std.specs.Prelude.{min, if◌then◌else◌, Option}
 use Rattle.std.proofs.Math.Nat.{min-eq_left, min-eq_right}
 use Rattle.bus.specs.declared.Sign.{Sign}
-use Rattle.explain_bus.proofs.Signs.{held}
+use Rattle.explain_bus.specs.Inner.Whole.{whole}
+use Rattle.explain_bus.proofs.Whole.{text_by, by_whole}
 use Rattle.svg_text.specs.Picture.{width, column, row, lanes_text, sign_text, signs_text, last_row}
+use Rattle.svg_text.specs.Picture.{svg_text, picture}
 
 next : (signs : List Sign) (i : ℕ) (none : Sign)
     → i < length signs
@@ -63,22 +65,24 @@ signs_end signs i x y h = rw (drop_of_length-le signs {i = i} h)
 
 -- ---- the signs that are drawn
 
--- the first 256 places that a sequence was put into, or all that it takes, hold its first 256 signs
-pub first_held : (l ss : List Sign) {after : List Sign} {n m : ℕ}
-    → (n ≡ length ss) × (after ≡ sets l 0 ss)
-    → n ≤ length after
-    → length after ≡ length l
-    → m ≡ min n 256
-    → take m after ≡ take 256 ss
-first_held l ss {after} {n} s h k e = rw e (by_test (ltb n 256) refl)
+-- the first 256, or all that there are
+pub first_drawn : (ss : List Sign) {m : ℕ} → m ≡ min (length ss) 256 → take m ss ≡ take 256 ss
+first_drawn ss e = rw e (by_test (ltb (length ss) 256) refl)
   where
-    whole : take n after ≡ ss
-    whole = held l ss s h k
-
-    by_test : (t : Bool) → ltb n 256 ≡ t → take (min n 256) after ≡ take 256 ss
+    by_test : (t : Bool) → ltb (length ss) 256 ≡ t → take (min (length ss) 256) ss ≡ take 256 ss
     by_test true t =
-        let b : n ≤ 256 = omega (arith, ltb-true n 256 t) in
-        rw (min-eq_left b) (whole ∙ sym (take_all 256 ss (omega (arith, s.0, b))))
-    by_test false t =
-        let b = ltb-false n 256 t in
-        rw (min-eq_right b) (sym (take-take 256 n after b) ∙ ap (λ (signs : List Sign). take 256 signs) whole)
+        let b : length ss ≤ 256 = omega (arith, ltb-true (length ss) 256 t) in
+        rw (min-eq_left b) (take_all (length ss) ss (omega arith) ∙ sym (take_all 256 ss b))
+    by_test false t = rw (min-eq_right (ltb-false (length ss) 256 t))
+
+-- ---- the picture
+
+abbrev pub picture_in : ℕ → List Sign → List ℕ
+picture_in room ss =
+    if ltb room 53000 then [] else (if eqb (length ss) 0 then [] else svg_text (take 256 ss) (length ss))
+
+pub picture_is : (log : List ℕ) (places room : ℕ) {found : Option (List Sign)}
+    → found ≡ whole log places
+    → picture log places room ≡ text_by (picture_in room) found
+unfolding picture
+picture_is log places room e = by_whole (picture_in room) log places e

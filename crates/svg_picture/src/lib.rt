@@ -7,15 +7,14 @@ ghost use Rattle.text_hex.specs.Appended.{Appended};
 ghost use Rattle.svg_text.specs.Picture.{last_row, signs_text, note_text, svg_text, picture};
 
 use bus::Sign;
+use explain_bus::sequence::Sequence;
 use svg_text::head::{push_head, push_number};
 use svg_text::place::{Place, width_of};
 use svg_text::sign::push_sign;
 use text_hex::text::Text;
 
-// How many signs are drawn, how many entries a sequence may have, and the room for its text.
+// How many signs are drawn, and the room for the text.
 pub const DRAWN: usize = 256;
-
-pub const MOST: usize = 32768;
 
 pub const ROOM: usize = 53000;
 
@@ -94,21 +93,24 @@ impl Drawn<'_> {
     }
 }
 
-// The picture of a log, in a buffer lent for it; its sequence is put into
-// another. Says how long the text is: 0 where the log puts nothing on the bus.
+// The picture of a log, in a buffer lent for it; its sequence is put into another. Says how long the text is.
+// That stays a number, 0 where the log puts nothing on the bus: an empty text ends there.
 #[tactic(auto, using(text_hex::proofs::Appends::nothing), unfolding(svg_text::specs::Picture::picture))]
 pub fn picture(log: &[u32], places: &mut [Sign], out: &mut [u8]) -> usize
     ensures { Appended out.old 0
         (picture log.now (length places.old) (length out.old))
         (length out.old) out.new result }
 {
-    let n = bus::bus_sequence(log, places);
-    if n > MOST || places.len() < MOST || out.len() < ROOM || n == 0 {
+    let Some(sequence) = Sequence::of(log, places) else {
+        return 0;
+    };
+    let count = sequence.signs.len();
+    if out.len() < ROOM || count == 0 {
         return 0;
     }
     let drawn = Drawn {
-        signs: &places[..n.min(DRAWN)],
-        entries: n as u32,
+        signs: &sequence.signs[..count.min(DRAWN)],
+        entries: count as u32,
     };
     drawn.put(out)
 }

@@ -8,6 +8,7 @@ ghost use Rattle.svg_text.specs.Picture.{direction_text, lanes_text, sign_text};
 use super::head::push_number;
 use super::place::Place;
 use bus::Sign;
+use explain_bus::line::letter;
 use text_hex::text::Text;
 
 // A shape of the head by its letter.
@@ -67,12 +68,6 @@ fn push_open(text: &mut Text, letter: u8, place: Place)
     text.push_text(b"\"/><path d=\"M0 65");
 }
 
-fn letter(b: u32) -> u8
-    ensures { result ≡ direction_text b }
-{
-    if b % 2 == 0 { b'W' } else { b'R' }
-}
-
 fn push_address(text: &mut Text, place: Place, b: u32)
     requires { Room 157 text.old }
     ensures { Added text.old (byte_text 97 place.x place.y b (hex2 (b / 2) ++ (32 ∷ direction_text b ∷ []))) 157 text.new }
@@ -82,7 +77,7 @@ fn push_address(text: &mut Text, place: Place, b: u32)
     text.push_text(b"\"/><text x=\"54\" y=\"96\">");
     text.push_hex2(b / 2);
     text.push(b' ');
-    text.push(letter(b));
+    text.push(letter(b % 2 != 0).to_ascii_uppercase());
     text.push_text(b"</text></g>\n");
 }
 

@@ -1,22 +1,22 @@
--- `picture`: the tests are those of the definition `picture`; `first_held` (proofs/Rows.antt) says that what is
--- drawn are the first 256 signs of the bus sequence.
-use native.Mathlib.Omega.{arith}
+-- `picture`: by `picture_is` the picture is that of the sequence that `of` found, or none; what is drawn of it are
+-- its first 256 signs (`first_drawn`, proofs/Rows.antt).
+use Rattle.std.proofs.Common.{ap, sym, ◌∙◌, length}
 use borrow.Author.Tests.{le-ltb, ne_eqb}
-use Rattle.text_hex.proofs.Appends.{within}
-use Rattle.svg_text.specs.Picture.{picture}
-use Rattle.svg_picture.proofs.Rows.{first_held}
+use Rattle.text_hex.proofs.Appends.{within, nothing}
+use Rattle.explain_bus.specs.Inner.Whole.{signs_in}
+use Rattle.svg_picture.proofs.Rows.{first_drawn, picture_is}
 use Rattle.svg_picture.proofs.picture.Goals as goal
 
+pub returns-in_default : goal.returns-in_default
+returns-in_default c = let a = c.args in
+    rw (picture_is a.log.now (length a.places.now) (length a.out.now) (ap signs_in (sym c.in_default.is) ∙ c.of.ensures))
+    (nothing _ _ _)
+
 pub returns : goal.returns
-unfolding picture
-returns c = rw (
-  ← c.bus_sequence-n.ensures.0,
-  le-ltb _ _ c.if-n-gt-MOST.false,
-  ← c.bus_sequence-n.auto.out,
-  le-ltb _ _ c.if-places-lt-MOST.false,
-  le-ltb _ _ c.if-out-lt-ROOM.false,
-  ne_eqb _ _ c.if-n-eq0.false,
-  ← first_held _ _ c.bus_sequence-n.ensures
-      (omega (arith, c.if-n-gt-MOST.false, c.if-places-lt-MOST.false)) c.bus_sequence-n.auto.out
-      c.min.ensures,
-) (within _ c.if-out-lt-ROOM.false c.put.ensures)
+returns c = let a = c.args in
+    rw (
+      picture_is a.log.now (length a.places.now) (length a.out.now) (ap signs_in (sym c.in-Some.is) ∙ c.of.ensures),
+      le-ltb _ _ c.if-out-lt-ROOM.false,
+      ne_eqb _ _ c.if-count-eq0.false,
+      ← first_drawn c.in-Some.sequence.signs.now c.min.ensures,
+    ) (within _ c.if-out-lt-ROOM.false c.put.ensures)

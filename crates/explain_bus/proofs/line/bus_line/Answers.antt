@@ -1,21 +1,26 @@
--- `bus_line`: the three tests are the conditions of `bus_line`, and the first two put the whole sequence in
--- the places (`held` of proofs/Signs.antt).
-use Rattle.std.proofs.Common.{arith}
-use borrow.Author.Tests.{le-ltb}
-use Rattle.text_hex.proofs.Appends.{within}
-use Rattle.explain_bus.specs.Line.{bus_line}
-use Rattle.explain_bus.proofs.Signs.{held}
+-- `bus_line`: by `line_is` (proofs/Whole.antt) the line is that of the sequence that `of` found, or none.
+use Rattle.std.proofs.Common.{arith, ap, sym, ◌∙◌, length}
+use borrow.Author.Tests.{le-ltb, lt-ltb}
+use Rattle.text_hex.proofs.Appends.{within, nothing}
+use Rattle.explain_bus.specs.Inner.Whole.{signs_in}
+use Rattle.explain_bus.proofs.Whole.{line_is}
 use Rattle.explain_bus.proofs.line.bus_line.Goals as goal
 
+pub returns-in_default : goal.returns-in_default
+returns-in_default c = let a = c.args in
+    rw (line_is a.log.now (length a.places.now) (length a.out.now) (ap signs_in (sym c.in_default.is) ∙ c.of.ensures))
+    (nothing _ _ _)
+
+pub returns-then-out-lt-ROOM : goal.returns-then-out-lt-ROOM
+returns-then-out-lt-ROOM c = let a = c.args in
+    rw (
+      line_is a.log.now (length a.places.now) (length a.out.now) (ap signs_in (sym c.in-Some.is) ∙ c.of.ensures),
+      lt-ltb _ _ c.if-out-lt-ROOM.true,
+    ) (nothing _ _ _)
+
 pub returns : goal.returns
-unfolding bus_line
-returns c = rw (
-  ← c.bus_sequence-n.ensures.0,
-  le-ltb _ _ c.if-n-gt-MOST.false,
-  ← c.bus_sequence-n.auto.out,
-  le-ltb _ _ c.if-places-lt-MOST.false,
-  le-ltb _ _ c.if-out-lt-ROOM.false,
-  ← held _ _ c.bus_sequence-n.ensures
-      (omega (arith, c.if-n-gt-MOST.false, c.if-places-lt-MOST.false)) c.bus_sequence-n.auto.out,
-) (within _ (omega (arith, c.if-out-lt-ROOM.false))
-    c.sequence.ensures)
+returns c = let a = c.args in
+    rw (
+      line_is a.log.now (length a.places.now) (length a.out.now) (ap signs_in (sym c.in-Some.is) ∙ c.of.ensures),
+      le-ltb _ _ c.if-out-lt-ROOM.false,
+    ) (within _ (omega (arith, c.if-out-lt-ROOM.false)) c.put.ensures)

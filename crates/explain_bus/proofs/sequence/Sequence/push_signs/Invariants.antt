@@ -3,11 +3,11 @@
 use Rattle.std.specs.Prelude.{◌-◌, ◌*◌, ◌≤◌, drop}
 use Rattle.text_hex.proofs.Adding.{Adding}
 use Rattle.explain_bus.specs.Line.{signs_text}
-use Rattle.explain_bus.proofs.line.push_signs.Given as goal
+use Rattle.explain_bus.proofs.sequence.Sequence.push_signs.Given as goal
 
 abbrev pub invariant-loop-sign : goal.invariant-loop-sign
 invariant-loop-sign l = record {
-  adding : Adding l.initial.text (signs_text 0 l.signs) (signs_text l.run (drop l.sign-index l.signs))
+  adding : Adding l.initial.text (signs_text 0 l.self.signs.now) (signs_text l.run (drop l.sign-index l.self.signs.now))
       (9 * l.sign-index - 8 * l.run) l.text;
   few : l.run ≤ l.sign-index;
 }
