@@ -2,11 +2,11 @@
 // another; here is what a part of it asks of a recording before it goes ahead, and a read in it.
 #![tactic(auto)]
 
-ghost use Rattle.std.specs.Prelude.{true, ◌≡◌, ◌+◌, ◌<◌, ◌≤◌, length};
-ghost use Rattle.regs.specs.Inner.Recording.{room_of};
-ghost use Rattle.regs_runs.specs.Inner.Puts.{Reads};
+ghost use Rattle.std.specs.Prelude.{true, false, ◌≡◌, ◌+◌, ◌<◌, ◌≤◌, length, get_or};
+ghost use Rattle.regs.specs.Inner.Recording.{Enters, room_of};
+ghost use Rattle.regs_runs.specs.Inner.Puts.{Reads, Polled, head_put, value_put};
 
-use regs::access::Recording;
+use regs::access::{Entry, Recording};
 
 // Whether so many more fit behind those that are used.
 fn fits(used: usize, more: usize, length: usize) -> bool
@@ -35,4 +35,48 @@ pub fn read(recording: &mut Recording, register: u8) -> u32
     recording.put_read(register, v);
     recording.used += 1;
     v
+}
+
+// The reading that is so many ahead, 0 where there is none.
+pub fn ahead(recording: &Recording, n: usize) -> u32
+    ensures { result ≡ get_or recording.now.readings.now (recording.now.used + n) 0 }
+{
+    match recording.used.checked_add(n) {
+        Some(at) => recording.readings.get(at).copied().unwrap_or(0),
+        None => 0,
+    }
+}
+
+// Puts an entry behind those that there are.
+fn put(recording: &mut Recording, entry: Entry)
+    requires { recording.old.entries < room_of recording.old }
+    ensures { Enters recording.old (head_put entry) (value_put entry) recording.new }
+{
+    match entry {
+        Entry::Read(register, v) => recording.put_read(register, v),
+        Entry::Write(register, v) => recording.put_write(register, v),
+        Entry::Marked(mark) => recording.put_mark(mark),
+    }
+}
+
+// A poll that may have found nothing: then its entries are put and so many readings
+// used, where the recording has them all; and whether that was so.
+pub fn poll(
+    recording: &mut Recording,
+    found_nothing: bool,
+    readings: usize,
+    entries: &[Entry],
+) -> bool
+    ensures polled { result ≡ true
+        → Polled recording.old found_nothing readings entries.now recording.new }
+    ensures stayed { result ≡ false → recording.new ≡ recording.old }
+{
+    if !found_nothing || !has(recording, readings, entries.len()) {
+        return false;
+    }
+    for entry in entries {
+        put(recording, *entry);
+    }
+    recording.used += readings;
+    true
 }

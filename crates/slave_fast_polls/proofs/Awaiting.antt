@@ -1,9 +1,9 @@
 -- Polls of `listen` that find nothing.
 use Prim.Native.Nat.{ℕ, ◌+◌, ◌/◌, ◌<◌, ◌≤◌, ◌^◌}
 use native.Mathlib.Omega.{arith}
-use mathlib.Core.Bool.{true, not, ◌&&◌, and-false}
-use mathlib.Core.List.{List}
-use mathlib.Core.Path.{◌≡◌, refl}
+use mathlib.Core.Bool.{Bool, true, not, ◌&&◌, and-false}
+use mathlib.Core.List.{List, [], ◌∷◌}
+use mathlib.Core.Path.{◌≡◌, refl, sym, ◌∙◌}
 use lib.Dec.{eqb}
 use lib.ListN.{length, get_or}
 use borrow.Author.Tests.{le-ltb, ne_eqb, eqb-true, not-true}
@@ -20,7 +20,8 @@ use Rattle.slave_steps.specs.declared.Slave.{Slave}
 use Rattle.slave_steps.specs.declared.Point.TheVariants.{Listening}
 use Rattle.regs_runs.specs.Inner.Reaches.{Reaches}
 use Rattle.regs.specs.declared.access.Recording.{Recording}
-use Rattle.regs_runs.specs.Inner.Puts.{Puts}
+use Rattle.regs.specs.declared.access.Entry.TheVariants.{Read, Write, Marked}
+use Rattle.regs_runs.specs.Inner.Puts.{Polled}
 use Rattle.regs_runs.proofs.Reach.{stays, then, keeps_all, keeps_on, did_read, did_write, did_mark}
 use Rattle.slave_fast_polls.specs.Inner.Idles.{Awaits, idle_listen}
 
@@ -79,20 +80,16 @@ wait_after x y = record {
       (rw x.keeps.readings at (y.reaches bytes me places i b none more));
 }
 
-pub waited : {before mid : Recording}
-    → Puts before 4
-    (entered (entered (entered (entered before.log.now before.entries (0x100 + RAW_INTR_STAT) (get_or before.readings.now before.used 0))
-    (before.entries + 1) (0x100 + RXFLR) (get_or before.readings.now (before.used + 1) 0))
-    (before.entries + 2) (0x200 + INTR_MASK) 0x1a24)
-    (before.entries + 3) (0x300 + PENDING) 0) mid
-    → before.used + 2 ≤ length before.readings.now
-    → before.entries + 4 ≤ length before.log.now / 2
+pub waited : {before after : Recording} {quiet : Bool}
+    → quiet ≡ idle_listen (get_or before.readings.now before.used 0) (get_or before.readings.now (before.used + 1) 0)
     → length before.log.now < 2 ^ 64
-    → idle_listen (get_or before.readings.now before.used 0) (get_or before.readings.now (before.used + 1) 0) ≡ true
-    → Awaits before (record mid { used = mid.used + 2 })
-waited {before} put left room fits idle = record {
-  keeps = record { readings = put.keeps.readings; loan = put.keeps.loan; size = put.keeps.size };
-  room = λ h. rw (put.entries, put.keeps.size) room;
-  reaches = λ bytes me places i b none more. rw (put.entries, put.used, put.log)
-      (poll_awaits bytes me none places i (stays (machine bytes) before.readings.now fits) more idle room left);
+    → Polled before quiet 2
+    (Read RAW_INTR_STAT (get_or before.readings.now before.used 0) ∷ Read RXFLR (get_or before.readings.now (before.used + 1) 0)
+    ∷ Write INTR_MASK 0x1a24 ∷ Marked PENDING ∷ []) after
+    → Awaits before after
+waited {before} {after} {quiet} is fits p = record {
+  keeps = p.keeps;
+  room = λ h. rw (p.entries, p.keeps.size) p.room;
+  reaches = λ bytes me places i b none more. rw (p.entries, p.used, p.log)
+      (poll_awaits bytes me none places i (stays (machine bytes) before.readings.now fits) more (sym is ∙ p.nothing) p.room p.left);
 }

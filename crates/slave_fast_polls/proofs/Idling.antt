@@ -1,9 +1,9 @@
 -- Polls that find nothing to do.
 use Prim.Native.Nat.{ℕ, ◌+◌, ◌/◌, ◌<◌, ◌≤◌, ◌^◌}
 use native.Mathlib.Omega.{arith}
-use mathlib.Core.Bool.{true, not, ◌&&◌}
-use mathlib.Core.List.{List}
-use mathlib.Core.Path.{◌≡◌, refl}
+use mathlib.Core.Bool.{Bool, true, not, ◌&&◌}
+use mathlib.Core.List.{List, [], ◌∷◌}
+use mathlib.Core.Path.{◌≡◌, refl, sym, ◌∙◌}
 use lib.ListN.{length, get_or}
 use borrow.Author.Tests.{le-ltb, not-true}
 use Rattle.regs.proofs.Tests.{both_of}
@@ -20,7 +20,8 @@ use Rattle.slave_steps.specs.declared.Slave.{Slave}
 use Rattle.slave_steps.specs.declared.Point.TheVariants.{Responding}
 use Rattle.regs_runs.specs.Inner.Reaches.{Reaches}
 use Rattle.regs.specs.declared.access.Recording.{Recording}
-use Rattle.regs_runs.specs.Inner.Puts.{Puts}
+use Rattle.regs.specs.declared.access.Entry.TheVariants.{Read, Write, Marked}
+use Rattle.regs_runs.specs.Inner.Puts.{Polled}
 use Rattle.regs_runs.proofs.Reach.{stays, then, keeps_all, keeps_on, did_read}
 use Rattle.slave_fast_polls.specs.Inner.Idles.{Idles, idle_poll}
 use Rattle.slave_fast_bytes.proofs.Sending.{waits}
@@ -68,19 +69,16 @@ idle_after x y = record {
       (rw x.keeps.readings at (y.reaches bytes me job count i b sent));
 }
 
-pub idled : {before mid : Recording}
-    → Puts before 3
-    (entered (entered (entered before.log.now before.entries (0x100 + RAW_INTR_STAT) (get_or before.readings.now before.used 0))
-    (before.entries + 1) (0x200 + INTR_MASK) 0xd0)
-    (before.entries + 2) (0x300 + PENDING) 0) mid
-    → before.used + 1 ≤ length before.readings.now
-    → before.entries + 3 ≤ length before.log.now / 2
+pub idled : {before after : Recording} {quiet : Bool}
+    → quiet ≡ idle_poll (get_or before.readings.now before.used 0)
     → length before.log.now < 2 ^ 64
-    → idle_poll (get_or before.readings.now before.used 0) ≡ true
-    → Idles before (record mid { used = mid.used + 1 })
-idled {before} put left room fits idle = record {
-  keeps = record { readings = put.keeps.readings; loan = put.keeps.loan; size = put.keeps.size };
-  room = λ h. rw (put.entries, put.keeps.size) room;
-  reaches = λ bytes me job count i b sent. rw (put.entries, put.used, put.log)
-      (poll_idle bytes me job count i (stays (machine bytes) before.readings.now fits) sent idle room (omega (arith, left)));
+    → Polled before quiet 1
+    (Read RAW_INTR_STAT (get_or before.readings.now before.used 0) ∷ Write INTR_MASK 0xd0 ∷ Marked PENDING ∷ []) after
+    → Idles before after
+idled {before} {after} {quiet} is fits p = record {
+  keeps = p.keeps;
+  room = λ h. rw (p.entries, p.keeps.size) p.room;
+  reaches = λ bytes me job count i b sent. rw (p.entries, p.used, p.log)
+      (poll_idle bytes me job count i (stays (machine bytes) before.readings.now fits) sent (sym is ∙ p.nothing) p.room
+      (omega (arith, p.left)));
 }

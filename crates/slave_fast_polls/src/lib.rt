@@ -5,9 +5,9 @@ ghost use Rattle.std.specs.Prelude.{true, ◌≡◌};
 ghost use Rattle.regs_runs.specs.Inner.Puts.{Grows};
 ghost use Rattle.slave_fast_polls.specs.Inner.Idles.{Idles, idle_poll, Awaits, idle_listen};
 
-use regs::access::Recording;
+use regs::access::{Entry, Recording};
 use regs::fields::{has_rd_req, has_rx_done, has_stop_det, has_tx_abrt, has_tx_empty, level_of};
-use regs_runs::has;
+use regs_runs::{ahead, poll};
 
 fn is_idle(stat: u32) -> bool
     ensures { result ≡ idle_poll stat }
@@ -20,17 +20,13 @@ fn idle(recording: &mut Recording) -> bool
     ensures idles { Idles recording.old recording.new }
     ensures found_nothing { result ≡ true → Grows recording.old recording.new }
 {
-    if has(recording, 1, 3) {
-        let stat = recording.readings[recording.used];
-        if is_idle(stat) {
-            recording.put_read(regs::RAW_INTR_STAT, stat);
-            recording.put_write(regs::INTR_MASK, slave_respond::MASK);
-            recording.put_mark(regs::PENDING);
-            recording.used += 1;
-            return true;
-        }
-    }
-    false
+    let stat = ahead(recording, 0);
+    let entries = [
+        Entry::Read(regs::RAW_INTR_STAT, stat),
+        Entry::Write(regs::INTR_MASK, slave_respond::MASK),
+        Entry::Marked(regs::PENDING),
+    ];
+    poll(recording, is_idle(stat), 1, &entries)
 }
 
 // Of a response whose bytes are all sent.
@@ -51,19 +47,15 @@ fn wait(recording: &mut Recording) -> bool
     ensures awaits { Awaits recording.old recording.new }
     ensures found_nothing { result ≡ true → Grows recording.old recording.new }
 {
-    if has(recording, 2, 4) {
-        let stat = recording.readings[recording.used];
-        let filled = recording.readings[recording.used + 1];
-        if is_idle_listen(stat, filled) {
-            recording.put_read(regs::RAW_INTR_STAT, stat);
-            recording.put_read(regs::RXFLR, filled);
-            recording.put_write(regs::INTR_MASK, slave_listen::MASK);
-            recording.put_mark(regs::PENDING);
-            recording.used += 2;
-            return true;
-        }
-    }
-    false
+    let stat = ahead(recording, 0);
+    let filled = ahead(recording, 1);
+    let entries = [
+        Entry::Read(regs::RAW_INTR_STAT, stat),
+        Entry::Read(regs::RXFLR, filled),
+        Entry::Write(regs::INTR_MASK, slave_listen::MASK),
+        Entry::Marked(regs::PENDING),
+    ];
+    poll(recording, is_idle_listen(stat, filled), 2, &entries)
 }
 
 // Of `listen`, with no byte pending.

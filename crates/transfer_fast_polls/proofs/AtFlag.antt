@@ -1,6 +1,6 @@
 -- RAW_INTR_STAT read again and again: the flag is not set yet.
 use Prim.Native.Nat.{ℕ, ◌+◌, ◌/◌, ◌<◌}
-use mathlib.Core.Bool.{Bool, true, false}
+use mathlib.Core.Bool.{Bool, false}
 use mathlib.Core.List.{List}
 use mathlib.Core.Path.{◌≡◌, refl}
 use lib.ListN.{length, get_or}
@@ -15,22 +15,24 @@ use Rattle.transfer.specs.declared.Point.TheVariants.{WriteBlocking}
 use Rattle.transfer.specs.declared.WritePoint.TheVariants.{Empty, StopDet}
 use Rattle.regs_runs.specs.Inner.Reaches.{Reaches}
 use Rattle.regs_runs.proofs.Reach.{did_read}
+use Rattle.transfer_fast_polls.specs.declared.flag.Flag.{Flag}
+use Rattle.transfer_fast_polls.specs.declared.flag.Flag.TheVariants as F
 use Rattle.transfer_fast_polls.specs.Inner.Stays.{flag_set, AwaitsFlag}
 
 -- the points that wait so
-pub empty_awaits : (i : ℕ) → AwaitsFlag false (WriteBlocking (Empty i))
+pub empty_awaits : (i : ℕ) → AwaitsFlag F.TxEmpty (WriteBlocking (Empty i))
 unfolding next_at next_write store_at step_of step_write
 empty_awaits i = record { reads = λ bytes t. refl; keeps = λ t v. refl; waits = λ len send_stop v unset. rw unset }
 
-pub stop_awaits : (had : Tried) → AwaitsFlag true (WriteBlocking (StopDet had))
+pub stop_awaits : (had : Tried) → AwaitsFlag F.StopDet (WriteBlocking (StopDet had))
 unfolding next_at next_write store_at step_of step_write
 stop_awaits had = record { reads = λ bytes t. refl; keeps = λ t v. refl; waits = λ len send_stop v unset. rw unset }
 
 module _ (coded : Bool) (kinds lengths bytes : List ℕ) {readings : List ℕ} (t : Transfer) {s₀ : Transfer} {e₀ u₀ : ℕ}
-    {l₀ b₀ : List ℕ} {p : Point} {stop : Bool} {e u : ℕ} {l b : List ℕ} where
+    {l₀ b₀ : List ℕ} {p : Point} {flag : Flag} {e u : ℕ} {l b : List ℕ} where
   pub poll_unset : Reaches (machine coded kinds lengths bytes) readings s₀ e₀ u₀ l₀ b₀ (with_point t p) e u l b
-      → AwaitsFlag stop p
-      → flag_set stop (get_or readings u 0) ≡ false
+      → AwaitsFlag flag p
+      → flag_set flag (get_or readings u 0) ≡ false
       → e < length l₀ / 2 → u < length readings
       → Reaches (machine coded kinds lengths bytes) readings s₀ e₀ u₀ l₀ b₀ (with_point t p) (e + 1) (u + 1)
       (entered l e (0x100 + RAW_INTR_STAT) (get_or readings u 0)) b

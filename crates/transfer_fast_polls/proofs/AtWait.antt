@@ -2,8 +2,8 @@
 use Prim.Native.Nat.{ℕ, ◌+◌, ◌/◌, ◌-◌, ◌<◌, ◌≤◌}
 use native.Mathlib.Omega.{arith}
 use mathlib.Core.Bool.{Bool, true, not}
-use mathlib.Core.List.{List}
-use mathlib.Core.Path.{◌≡◌, refl, ◌∙◌}
+use mathlib.Core.List.{List, [], ◌∷◌}
+use mathlib.Core.Path.{◌≡◌, refl}
 use lib.Dec.{eqb, ltb}
 use lib.ListN.{length, get_or}
 use borrow.Author.Tests.{eqb-true, not-true}
@@ -29,22 +29,15 @@ use Rattle.transfer.specs.declared.Caller.TheVariants as C
 use Rattle.transfer.specs.declared.WaitPoint.TheVariants.{RxTl, TxTl, Mask, SetMask, Pending}
 use Rattle.transfer.specs.declared.StopPoint.TheVariants.{Stat}
 use Rattle.std.specs.Prelude.{Ok}
-use Rattle.regs.specs.declared.access.Recording.{Recording}
-use Rattle.regs_runs.specs.Inner.Puts.{Puts}
+use Rattle.regs.specs.declared.access.Entry.TheVariants.{Read, Write, Marked}
+use Rattle.regs_runs.specs.Inner.Puts.{put_all}
 use Rattle.regs_runs.specs.Inner.Reaches.{Reaches}
-use Rattle.regs_runs.proofs.Reach.{keeps_on, did_read, did_write, did_mark}
-use Rattle.transfer_fast_polls.specs.Inner.Stays.{waited, too_few, no_place, no_stop}
+use Rattle.regs_runs.proofs.Reach.{did_read, did_write, did_mark}
+use Rattle.transfer_fast_polls.specs.Inner.Stays.{too_few, no_place, no_stop}
 
--- the three entries of a wait behind those of its poll
-pub wait_put : (mask set : ℕ) {before mid after : Recording} {n : ℕ} {l : List ℕ} → Puts before n l mid
-    → Puts mid 3 (waited mid.log.now mid.entries mask set) after
-    → Puts before (n + 3) (waited l (before.entries + n) mask set) after
-wait_put mask set p x = record {
-  keeps = keeps_on p.keeps x.keeps;
-  log = rw (p.log, p.entries) at x.log;
-  entries = omega (arith, x.entries, p.entries);
-  used = x.used ∙ p.used;
-}
+-- three entries: INTR_MASK, read and set, and the mark
+abbrev pub waited : List ℕ → ℕ → ℕ → ℕ → List ℕ
+waited l k mask set = entered (entered (entered l k (0x100 + INTR_MASK) mask) (k + 1) (0x200 + INTR_MASK) set) (k + 2) (0x300 + PENDING) 0
 
 module _ (coded : Bool) (kinds lengths bytes : List ℕ) {readings : List ℕ} (t : Transfer) {s₀ : Transfer} {e₀ u₀ : ℕ}
     {l₀ b₀ : List ℕ} {e u : ℕ} {l b : List ℕ} where
@@ -71,9 +64,9 @@ module _ (coded : Bool) (kinds lengths bytes : List ℕ) {readings : List ℕ} (
       → too_few x.batch (get_or readings u 0) (get_or readings (u + 1) 0) ≡ true
       → e + 6 ≤ length l₀ / 2 → u + 3 ≤ length readings
       → Reaches (machine coded kinds lengths bytes) readings s₀ e₀ u₀ l₀ b₀ (with_point t (ReadAsync (Level x))) (e + 6) (u + 3)
-      (waited (entered (entered (entered l e (0x100 + RXFLR) (get_or readings u 0)) (e + 1) (0x100 + TX_ABRT_SOURCE)
-      (get_or readings (u + 1) 0)) (e + 2) (0x200 + RX_TL) (x.batch - 1)) (e + 3) (get_or readings (u + 2) 0)
-      (set_m_tx_abrt (set_m_rx_full (get_or readings (u + 2) 0)))) b
+      (put_all l e (Read RXFLR (get_or readings u 0) ∷ Read TX_ABRT_SOURCE (get_or readings (u + 1) 0) ∷ Write RX_TL (x.batch - 1)
+      ∷ Read INTR_MASK (get_or readings (u + 2) 0) ∷ Write INTR_MASK (set_m_tx_abrt (set_m_rx_full (get_or readings (u + 2) 0)))
+      ∷ Marked PENDING ∷ [])) b
   unfolding next_at next_round next_abort next_wait store_at store_round step_of step_round step_abort step_wait
       returned mask_for poll_point
   batch_waits {x} g few room left =
@@ -90,9 +83,11 @@ module _ (coded : Bool) (kinds lengths bytes : List ℕ) {readings : List ℕ} (
       let q₃ : e + 3 ≡ e + 2 + 1 = omega arith in
       let g₃ = did_write g₂ {r = RX_TL} {x = x.batch - 1} {s' = with_point t (Wait (Mask (O.Batch x)))} refl
       (omega (arith, room)) refl q₃ in
+      let q₄ : e + 3 + 1 ≡ e + 4 = omega arith in
+      let q₅ : e + 3 + 2 ≡ e + 5 = omega arith in
       let q₆ : e + 3 + 3 ≡ e + 6 = omega arith in
       let v₃ : u + 2 + 1 ≡ u + 3 = omega arith in
-      rw (q₆, v₃) at (masked coded kinds lengths bytes t (O.Batch x) g₃ (omega (arith, room)) (omega (arith, left)))
+      rw (q₄, q₅, q₆, v₃) at (masked coded kinds lengths bytes t (O.Batch x) g₃ (omega (arith, room)) (omega (arith, left)))
 
   pub space_waits : {i : ℕ}
       → Reaches (machine coded kinds lengths bytes) readings s₀ e₀ u₀ l₀ b₀ (with_point t (Abort Source (C.Space i))) e u
@@ -100,9 +95,9 @@ module _ (coded : Bool) (kinds lengths bytes : List ℕ) {readings : List ℕ} (
       → no_place (get_or readings u 0) (get_or readings (u + 1) 0) ≡ true
       → e + 6 ≤ length l₀ / 2 → u + 3 ≤ length readings
       → Reaches (machine coded kinds lengths bytes) readings s₀ e₀ u₀ l₀ b₀ (with_point t (Abort Source (C.Space i))) (e + 6) (u + 3)
-      (waited (entered (entered (entered l e (0x100 + TX_ABRT_SOURCE) (get_or readings u 0)) (e + 1) (0x100 + TXFLR)
-      (get_or readings (u + 1) 0)) (e + 2) (0x200 + TX_TL) 1) (e + 3) (get_or readings (u + 2) 0)
-      (set_m_tx_abrt (set_m_tx_empty (get_or readings (u + 2) 0)))) b
+      (put_all l e (Read TX_ABRT_SOURCE (get_or readings u 0) ∷ Read TXFLR (get_or readings (u + 1) 0) ∷ Write TX_TL 1
+      ∷ Read INTR_MASK (get_or readings (u + 2) 0) ∷ Write INTR_MASK (set_m_tx_abrt (set_m_tx_empty (get_or readings (u + 2) 0)))
+      ∷ Marked PENDING ∷ [])) b
   unfolding next_at next_abort next_fill next_wait store_at step_of step_abort step_fill step_wait returned
       full_step places mask_for poll_point
   space_waits {i} g full room left =
@@ -118,18 +113,20 @@ module _ (coded : Bool) (kinds lengths bytes : List ℕ) {readings : List ℕ} (
       let g₂ = did_read g₁ refl (omega (arith, room)) (omega (arith, left)) a₂ q₂ v₂ in
       let q₃ : e + 3 ≡ e + 2 + 1 = omega arith in
       let g₃ = did_write g₂ {r = TX_TL} {x = 1} {s' = with_point t (Wait (Mask (O.Space i)))} refl (omega (arith, room)) refl q₃ in
+      let q₄ : e + 3 + 1 ≡ e + 4 = omega arith in
+      let q₅ : e + 3 + 2 ≡ e + 5 = omega arith in
       let q₆ : e + 3 + 3 ≡ e + 6 = omega arith in
       let v₃ : u + 2 + 1 ≡ u + 3 = omega arith in
-      rw (q₆, v₃) at (masked coded kinds lengths bytes t (O.Space i) g₃ (omega (arith, room)) (omega (arith, left)))
+      rw (q₄, q₅, q₆, v₃) at (masked coded kinds lengths bytes t (O.Space i) g₃ (omega (arith, room)) (omega (arith, left)))
 
   pub stop_waits : Reaches (machine coded kinds lengths bytes) readings s₀ e₀ u₀ l₀ b₀
       (with_point t (Abort Source (C.Stop (Ok tt)))) e u l b
       → no_stop (get_or readings u 0) (get_or readings (u + 1) 0) ≡ true
       → e + 5 ≤ length l₀ / 2 → u + 3 ≤ length readings
       → Reaches (machine coded kinds lengths bytes) readings s₀ e₀ u₀ l₀ b₀ (with_point t (Abort Source (C.Stop (Ok tt)))) (e + 5) (u + 3)
-      (waited (entered (entered l e (0x100 + TX_ABRT_SOURCE) (get_or readings u 0)) (e + 1) (0x100 + RAW_INTR_STAT)
-      (get_or readings (u + 1) 0)) (e + 2) (get_or readings (u + 2) 0)
-      (set_m_tx_abrt (set_m_stop_det (get_or readings (u + 2) 0)))) b
+      (put_all l e (Read TX_ABRT_SOURCE (get_or readings u 0) ∷ Read RAW_INTR_STAT (get_or readings (u + 1) 0)
+      ∷ Read INTR_MASK (get_or readings (u + 2) 0) ∷ Write INTR_MASK (set_m_tx_abrt (set_m_stop_det (get_or readings (u + 2) 0)))
+      ∷ Marked PENDING ∷ [])) b
   unfolding next_at next_abort next_stop next_wait store_at step_of step_abort step_stop step_wait returned
       stop_returned mask_for poll_point
   stop_waits g going room left =
@@ -144,6 +141,8 @@ module _ (coded : Bool) (kinds lengths bytes : List ℕ) {readings : List ℕ} (
       ≡ with_point t (Wait (Mask (O.Stop (Ok tt)))) =
       rw (not-true (stop_det (get_or readings (u + 1) 0)) both.1) in
       let g₂ = did_read g₁ refl (omega (arith, room)) (omega (arith, left)) a₂ q₂ v₂ in
+      let q₃ : e + 2 + 1 ≡ e + 3 = omega arith in
+      let q₄ : e + 2 + 2 ≡ e + 4 = omega arith in
       let q₅ : e + 2 + 3 ≡ e + 5 = omega arith in
       let v₃ : u + 2 + 1 ≡ u + 3 = omega arith in
-      rw (q₅, v₃) at (masked coded kinds lengths bytes t (O.Stop (Ok tt)) g₂ (omega (arith, room)) (omega (arith, left)))
+      rw (q₃, q₄, q₅, v₃) at (masked coded kinds lengths bytes t (O.Stop (Ok tt)) g₂ (omega (arith, room)) (omega (arith, left)))

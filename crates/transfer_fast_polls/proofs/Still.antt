@@ -1,14 +1,15 @@
 -- No poll, one poll after the other, and a poll's entries with its readings.
-use Prim.Native.Nat.{ℕ, ◌+◌, ◌/◌, ◌<◌, ◌≤◌, ◌^◌}
+use Prim.Native.Nat.{ℕ, ◌+◌, ◌<◌, ◌^◌}
 use mathlib.Core.Bool.{Bool}
 use mathlib.Core.List.{List}
 use lib.ListN.{length}
 use Rattle.regs.specs.declared.access.Recording.{Recording}
+use Rattle.regs.specs.declared.access.Entry.{Entry}
 use Rattle.transfer.specs.Inner.Machine.{machine}
 use Rattle.transfer.specs.Inner.Points.{with_point}
 use Rattle.transfer.specs.declared.Transfer.{Transfer}
 use Rattle.transfer.specs.declared.Point.{Point}
-use Rattle.regs_runs.specs.Inner.Puts.{Puts}
+use Rattle.regs_runs.specs.Inner.Puts.{Polled, put_all}
 use Rattle.regs_runs.specs.Inner.Reaches.{Reaches}
 use Rattle.regs_runs.proofs.Reach.{stays, then, keeps_all, keeps_on}
 use Rattle.transfer_fast_polls.specs.Inner.Stays.{Stays}
@@ -29,14 +30,13 @@ poll_after x y = record {
 }
 
 -- a poll's entries are in the log, and its readings are used
-pub polled : (m : ℕ) {p : Point} {before mid : Recording} {n : ℕ} {l : List ℕ} → Puts before n l mid
-    → before.entries + n ≤ length before.log.now / 2
+pub polled : {p : Point} {before after : Recording} {quiet : Bool} {m : ℕ} {es : List Entry} → Polled before quiet m es after
     → ((coded : Bool) (kinds lengths bytes : List ℕ) (t : Transfer) (b : List ℕ)
     → Reaches (machine coded kinds lengths bytes) before.readings.now (with_point t p) before.entries before.used
-    before.log.now b (with_point t p) (before.entries + n) (before.used + m) l b)
-    → Stays p before (record mid { used = mid.used + m })
-polled m put room run = record {
-  keeps = record { readings = put.keeps.readings; loan = put.keeps.loan; size = put.keeps.size };
-  room = λ h. rw (put.entries, put.keeps.size) room;
-  reaches = λ coded kinds lengths bytes t b. rw (put.entries, put.used, put.log) (run coded kinds lengths bytes t b);
+    before.log.now b (with_point t p) (before.entries + length es) (before.used + m) (put_all before.log.now before.entries es) b)
+    → Stays p before after
+polled x run = record {
+  keeps = x.keeps;
+  room = λ h. rw (x.entries, x.keeps.size) x.room;
+  reaches = λ coded kinds lengths bytes t b. rw (x.entries, x.used, x.log) (run coded kinds lengths bytes t b);
 }

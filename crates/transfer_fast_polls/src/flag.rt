@@ -5,33 +5,34 @@ ghost use Rattle.transfer.specs.declared.Point.{Point};
 ghost use Rattle.transfer_fast_blocking.specs.Inner.Bursts.{ForAny};
 ghost use Rattle.transfer_fast_polls.specs.Inner.Stays.{Stays, flag_set, AwaitsFlag};
 
-use regs::access::Recording;
+use regs::access::{Entry, Recording};
 use regs::fields::{has_stop_det, has_tx_empty};
-use regs_runs::has;
+use regs_runs::ahead;
 
-// Whether the flag is set: STOP_DET, or else TX_EMPTY.
-fn is_set(stop: bool, stat: u32) -> bool
-    ensures { result ≡ flag_set stop stat }
-{
-    if stop {
-        has_stop_det(stat)
-    } else {
-        has_tx_empty(stat)
+// The flag that is awaited.
+#[derive(Clone, Copy)]
+pub enum Flag {
+    TxEmpty,
+    StopDet,
+}
+
+impl Flag {
+    fn is_set(self, stat: u32) -> bool
+        ensures { result ≡ flag_set self stat }
+    {
+        match self {
+            Flag::TxEmpty => has_tx_empty(stat),
+            Flag::StopDet => has_stop_det(stat),
+        }
     }
 }
 
-pub fn poll(stop: bool, recording: &mut Recording) -> bool
+pub fn poll(flag: Flag, recording: &mut Recording) -> bool
     ensures stays { ForAny
-        (λ (p : Point). AwaitsFlag stop p → Stays p recording.old recording.new) }
+        (λ (p : Point). AwaitsFlag flag p → Stays p recording.old recording.new) }
     ensures found_nothing { result ≡ true → Grows recording.old recording.new }
 {
-    if has(recording, 1, 1) {
-        let stat = recording.readings[recording.used];
-        if !is_set(stop, stat) {
-            recording.put_read(regs::RAW_INTR_STAT, stat);
-            recording.used += 1;
-            return true;
-        }
-    }
-    false
+    let stat = ahead(recording, 0);
+    let entries = [Entry::Read(regs::RAW_INTR_STAT, stat)];
+    regs_runs::poll(recording, !flag.is_set(stat), 1, &entries)
 }

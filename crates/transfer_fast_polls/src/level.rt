@@ -6,9 +6,9 @@ ghost use Rattle.transfer.specs.declared.ReadPoint.TheVariants.{Level};
 ghost use Rattle.transfer_fast_blocking.specs.Inner.Bursts.{ForAny};
 ghost use Rattle.transfer_fast_polls.specs.Inner.Stays.{Stays, no_byte};
 
-use regs::access::Recording;
+use regs::access::{Entry, Recording};
 use regs::fields::level_of;
-use regs_runs::has;
+use regs_runs::ahead;
 
 fn is_empty(filled: u32, source: u32) -> bool
     ensures { result ≡ no_byte filled source }
@@ -21,15 +21,11 @@ pub fn poll(recording: &mut Recording) -> bool
         (λ (i : ℕ). Stays (ReadBlocking (Level i)) recording.old recording.new) }
     ensures found_nothing { result ≡ true → Grows recording.old recording.new }
 {
-    if has(recording, 2, 2) {
-        let filled = recording.readings[recording.used];
-        let source = recording.readings[recording.used + 1];
-        if is_empty(filled, source) {
-            recording.put_read(regs::RXFLR, filled);
-            recording.put_read(regs::TX_ABRT_SOURCE, source);
-            recording.used += 2;
-            return true;
-        }
-    }
-    false
+    let filled = ahead(recording, 0);
+    let source = ahead(recording, 1);
+    let entries = [
+        Entry::Read(regs::RXFLR, filled),
+        Entry::Read(regs::TX_ABRT_SOURCE, source),
+    ];
+    regs_runs::poll(recording, is_empty(filled, source), 2, &entries)
 }

@@ -9,6 +9,7 @@ ghost use Rattle.std.specs.Prelude.{true, ◌≡◌};
 ghost use Rattle.regs_runs.specs.Inner.Puts.{Grows};
 ghost use Rattle.transfer_fast_polls.specs.Inner.Stays.{Stays};
 
+use flag::Flag;
 use regs::access::Recording;
 use transfer::{AbortPoint, Caller, Point, ReadPoint, RoundPoint, WritePoint};
 
@@ -19,8 +20,8 @@ fn poll(p: Point, recording: &mut Recording) -> bool
     ensures found_nothing { result ≡ true → Grows recording.old recording.new }
 {
     match p {
-        Point::WriteBlocking(WritePoint::Empty(_)) => flag::poll(false, recording),
-        Point::WriteBlocking(WritePoint::StopDet(_)) => flag::poll(true, recording),
+        Point::WriteBlocking(WritePoint::Empty(_)) => flag::poll(Flag::TxEmpty, recording),
+        Point::WriteBlocking(WritePoint::StopDet(_)) => flag::poll(Flag::StopDet, recording),
         Point::ReadBlocking(ReadPoint::Level(_)) => level::poll(recording),
         Point::ReadAsync(RoundPoint::Level(round)) => wait::batch(round.batch, recording),
         Point::Abort(AbortPoint::Source, Caller::Space(_)) => wait::space(recording),

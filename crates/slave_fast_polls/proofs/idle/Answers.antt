@@ -1,12 +1,13 @@
--- `idle`: where readings and entries are left and `is_idle` holds, `idled` of proofs/Idling.antt is the run of the
--- machine from the poll to the next one, over the three entries put.
-use Rattle.std.proofs.Common.{arith, rules}
-use Rattle.regs_runs.proofs.Putting.{first_put, next_put}
-use Rattle.slave_fast_polls.proofs.Idling.{idled}
+-- `idle`: where `poll` made the poll, `idled` of proofs/Idling.antt is the run of the machine to the next one.
+use Rattle.std.proofs.Common.{arith, ◌≡◌, ◌+◌}
+use Rattle.regs.proofs.Tests.{by_test}
+use Rattle.slave_fast_polls.proofs.Idling.{no_idle, idled}
 use Rattle.slave_fast_polls.proofs.idle.Goals as goal
 
-pub returns-then-is_idle-clause-idles : goal.returns-then-is_idle-clause-idles
-returns-then-is_idle-clause-idles c =
-    let more = c.has.ensures c.if-has.true in
-    idled (next_put (next_put (first_put c.put_read.ensures) c.put_write.ensures) c.put_mark.ensures)
-    more.0 more.1 (omega arith) (search rules)
+pub returns-clause-idles : goal.returns-clause-idles
+returns-clause-idles c =
+    let r = c.args.recording.now in
+    let next : r.used + 0 ≡ r.used = omega arith in
+    let stat = rw next at c.ahead-stat.ensures in
+    by_test c.poll.result (λ yes. idled (rw stat at c.is_idle.ensures) (omega arith) (rw stat at (c.poll.ensures.polled yes)))
+    (λ no. rw (c.poll.ensures.stayed no) (no_idle (omega arith)))

@@ -1,9 +1,7 @@
 -- Polls of a transfer that find nothing: its run comes from a point to the same point, later.
-use Rattle.std.specs.Prelude.{ℕ, ◌+◌, ◌≤◌, Bool, true, false, not, ◌&&◌, List, ◌≡◌, eqb, ltb, None}
+use Rattle.std.specs.Prelude.{ℕ, ◌≤◌, Bool, false, not, ◌&&◌, List, ◌≡◌, eqb, ltb, None}
 use Rattle.regs.specs.Fields.{tx_empty, stop_det, level}
-use Rattle.regs.specs.Program.{PENDING}
-use Rattle.regs.specs.Registers.{RAW_INTR_STAT, INTR_MASK}
-use Rattle.regs.specs.Inner.Machine.{entered}
+use Rattle.regs.specs.Registers.{RAW_INTR_STAT}
 use Rattle.regs.specs.Inner.Recording.{Keeps, room_of}
 use Rattle.regs.specs.declared.access.Recording.{Recording}
 use Rattle.regs.specs.declared.access.Next.TheVariants.{Read}
@@ -13,6 +11,8 @@ use Rattle.transfer.specs.declared.Transfer.{Transfer}
 use Rattle.transfer.specs.declared.Point.{Point}
 use Rattle.transfer.specs.Inner.Machine.{go}
 use Rattle.regs_runs.specs.Inner.Reaches.{Reaches}
+use Rattle.transfer_fast_polls.specs.declared.flag.Flag.{Flag}
+use Rattle.transfer_fast_polls.specs.declared.flag.Flag.TheVariants.{TxEmpty, StopDet}
 
 -- whatever the transfer is
 pub record Stays (p : Point) (before after : Recording) : Type 0 where
@@ -24,14 +24,14 @@ pub record Stays (p : Point) (before after : Recording) : Type 0 where
 
 -- ---- RAW_INTR_STAT is read until a flag is set: STOP_DET, or else TX_EMPTY
 
-abbrev pub flag_set : Bool → ℕ → Bool
-flag_set true stat = stop_det stat
-flag_set false stat = tx_empty stat
+abbrev pub flag_set : Flag → ℕ → Bool
+flag_set StopDet stat = stop_det stat
+flag_set TxEmpty stat = tx_empty stat
 
-pub record AwaitsFlag (stop : Bool) (p : Point) : Type 0 where
+pub record AwaitsFlag (flag : Flag) (p : Point) : Type 0 where
   pub reads : (bytes : List ℕ) (t : Transfer) → next_at bytes t p ≡ Read RAW_INTR_STAT
   pub keeps : (t : Transfer) (v : ℕ) → store_at t p v ≡ None
-  pub waits : (len : ℕ) (send_stop : Bool) (v : ℕ) → flag_set stop v ≡ false → step_of len send_stop p v ≡ go p
+  pub waits : (len : ℕ) (send_stop : Bool) (v : ℕ) → flag_set flag v ≡ false → step_of len send_stop p v ≡ go p
 
 -- ---- a blocking read: RXFLR has no byte, and nothing was aborted
 
@@ -39,10 +39,6 @@ abbrev pub no_byte : ℕ → ℕ → Bool
 no_byte filled source = eqb (level filled) 0 && eqb source 0
 
 -- ---- the async forms' waits, where nothing was aborted
-
--- three entries: INTR_MASK, read and set, and the mark
-abbrev pub waited : List ℕ → ℕ → ℕ → ℕ → List ℕ
-waited l k mask set = entered (entered (entered l k (0x100 + INTR_MASK) mask) (k + 1) (0x200 + INTR_MASK) set) (k + 2) (0x300 + PENDING) 0
 
 -- RXFLR has not reached the words of the round
 abbrev pub too_few : ℕ → ℕ → ℕ → Bool

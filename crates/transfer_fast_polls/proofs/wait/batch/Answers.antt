@@ -1,23 +1,31 @@
--- `batch`: where readings and entries are left and `is_too_few` holds, `batch_waits` of proofs/AtWait.antt is the run
--- of the machine from the point to itself, and `polled` puts it into the recording.
-use Rattle.std.proofs.Common.{arith, rules, ◌≡◌, ◌+◌, true}
-use lib.ListN.{get_or}
-use Rattle.regs_runs.proofs.Putting.{first_put, next_put}
+-- `batch`: where `poll` made the poll, `batch_waits` of proofs/AtWait.antt is the run of the machine from the point to
+-- itself, and `polled` puts it into the recording.
+use Rattle.std.proofs.Common.{arith, sym, ◌≡◌, ◌+◌, ◌∙◌}
+use Rattle.regs.proofs.Tests.{by_test}
 use Rattle.regs_runs.proofs.Reach.{stays}
 use Rattle.transfer.specs.Inner.Machine.{machine}
-use Rattle.transfer_fast_polls.specs.Inner.Stays.{too_few}
-use Rattle.transfer_fast_polls.proofs.Still.{polled}
-use Rattle.transfer_fast_polls.proofs.AtWait.{wait_put, batch_waits}
+use Rattle.transfer_fast_polls.proofs.Still.{no_poll, polled}
+use Rattle.transfer_fast_polls.proofs.AtWait.{batch_waits}
 use Rattle.transfer_fast_polls.proofs.wait.batch.Goals as goal
 
-pub returns-then-is_too_few-clause-stays : goal.returns-then-is_too_few-clause-stays
-returns-then-is_too_few-clause-stays c = λ x is.
+pub returns-clause-stays : goal.returns-clause-stays
+returns-clause-stays c = λ x is.
     let r = c.args.recording.now in
-    let more = c.has.ensures c.if-has.true in
-    let few : too_few x.batch (get_or r.readings.now r.used 0) (get_or r.readings.now (r.used + 1) 0) ≡ true = rw is (search rules) in
-    let write = rw (c.from.ensures, c.saturating_sub.ensures, ← is) at c.put_write.ensures in
-    polled 3
-    (wait_put _ _ (next_put (next_put (first_put c.put_read.ensures) c.put_read-then-is_too_few.ensures) write)
-    (rw (c.with_m_tx_abrt.ensures, c.with_m_rx_full.ensures) at c.put_wait.ensures)) more.1
-    (λ coded kinds lengths bytes t b. batch_waits coded kinds lengths bytes t
-    (stays (machine coded kinds lengths bytes) r.readings.now (omega arith)) few more.1 more.0)
+    let next : r.used + 0 ≡ r.used = omega arith in
+    let filled = rw next at c.ahead-filled.ensures in
+    let words = rw (filled, c.ahead-source.ensures, ← is) at c.is_too_few.ensures in
+    by_test c.poll.result
+    (λ yes.
+    let p = rw (
+      filled,
+      c.ahead-source.ensures,
+      c.with_m_tx_abrt.ensures,
+      c.with_m_rx_full.ensures,
+      c.ahead-mask.ensures,
+      c.from.ensures,
+      c.saturating_sub.ensures,
+      ← is,
+    ) at (c.poll.ensures.polled yes) in
+    polled p (λ coded kinds lengths bytes t b. batch_waits coded kinds lengths bytes t
+    (stays (machine coded kinds lengths bytes) r.readings.now (omega arith)) (sym words ∙ p.nothing) p.room p.left))
+    (λ no. rw (c.poll.ensures.stayed no) (no_poll (omega arith)))
