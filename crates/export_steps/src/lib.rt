@@ -14,6 +14,7 @@ ghost use Rattle.export_steps.specs.Inner.Steps.{Starts, Tells, Advances, Moves,
 use i2c::is_listed;
 use regs::access::Next;
 use regs::answers::{Answer, Refusal, Reply};
+use transfer::operations::{Operations, Plan};
 use transfer::{Point, Transfer};
 use words::{ADDRESS, ROW, WORD};
 
@@ -85,7 +86,7 @@ fn refuse(t: Transfer) -> Transfer
 }
 
 // Whether the kinds are those of the form: one read, one write, a write and a read, or any.
-// Form and kinds are the numbers that programs in C give, and any numbers are answered.
+// Form and kinds stay numbers: programs in C give them so, and any numbers are answered.
 #[tactic(auto, unfolding(crate::specs::Forms::fits_form, crate::specs::Forms::shape_of, crate::specs::Forms::same))]
 fn are_of_form(form: u8, kinds: &[u8]) -> bool
     ensures { result ≡ fits_form form kinds.now }
@@ -100,10 +101,10 @@ fn are_of_form(form: u8, kinds: &[u8]) -> bool
 }
 
 #[tactic(auto, unfolding(crate::specs::Forms::accepts))]
-fn is_accepted(form: u8, kinds: &[u8], lengths: &[u16], written: usize, room: usize) -> bool
-    ensures { result ≡ accepts form kinds.now lengths.now written room }
+fn is_accepted(form: u8, operations: &Operations, written: usize, room: usize) -> bool
+    ensures { result ≡ accepts form operations.now.kinds.now operations.now.lengths.now written room }
 {
-    are_of_form(form, kinds) && is_listed(kinds, lengths, written, room)
+    are_of_form(form, operations.kinds) && is_listed(operations, written, room)
 }
 
 // A transfer before its first access, by its form: 0 a blocking read, 1 a write, 2 a write-read,
@@ -125,8 +126,9 @@ pub extern "C" fn celadonsaw_start(
     let mode = words::mode(3 < form);
     // The reads of a transaction carry no RESTART.
     let restart = form % 4 != 3;
-    let t = transfer_steps::start(mode, restart, address, kinds);
-    if is_accepted(form, kinds, lengths, written, room) {
+    let operations = Operations { kinds, lengths };
+    let t = transfer_steps::start(mode, restart, address, &operations);
+    if is_accepted(form, &operations, written, room) {
         words::put(words, t);
     } else {
         words::put(words, refuse(t));
@@ -145,18 +147,15 @@ pub extern "C" fn celadonsaw_next_access(words: &[u64; 20], write: &[u8]) -> Acc
 }
 
 // A step that is not made on the words: they are decoded, and the transfer after the step is put back.
-fn by_points(words: &mut [u64; 20], value: u32, coded: bool, kinds: &[u8], lengths: &[u16])
-    ensures { Advances coded kinds.now lengths.now words.old value
-        words.new }
+fn by_points(words: &mut [u64; 20], value: u32, plan: &Plan)
+    ensures { Advances plan.now.coded plan.now.operations.kinds.now plan.now.operations.lengths.now
+        words.old value words.new }
 {
     if words::ended(words) {
         return;
     }
     let t = words::transfer_from(words);
-    words::put(
-        words,
-        transfer_steps::advance(t, value, coded, kinds, lengths),
-    );
+    words::put(words, transfer_steps::advance(t, value, plan));
 }
 
 // The transfer after that access, which read `value` (0 where it read
@@ -174,7 +173,12 @@ pub extern "C" fn celadonsaw_advance(
     ensures stores { Stores false words.old value read.old read.new }
 {
     regs::access::keep(read, words_access::store(words, value));
-    by_points(words, value, false, kinds, lengths);
+    let operations = Operations { kinds, lengths };
+    let plan = Plan {
+        operations,
+        coded: false,
+    };
+    by_points(words, value, &plan);
 }
 
 // Both in one call: advances, and tells the access that is next. The
@@ -197,7 +201,12 @@ pub extern "C" fn celadonsaw_step(
     match words_steps::step(words, value) {
         Some(at) => words_access::access_at(words, at.group(), at.row(), write).into(),
         None => {
-            by_points(words, value, false, kinds, lengths);
+            let operations = Operations { kinds, lengths };
+            let plan = Plan {
+                operations,
+                coded: false,
+            };
+            by_points(words, value, &plan);
             let a = celadonsaw_next_access(words, write);
             // Field by field: then the access is put together in a register, and not in memory.
             Access {
@@ -284,7 +293,12 @@ pub extern "C" fn celadonsaw_advance_pec(
     let address = words::half(words[ADDRESS]);
     words_code::feed(code, address, made.kind, made.register, made.value, value);
     regs::access::keep(read, words_access::store(words, value));
-    by_points(words, value, true, kinds, lengths);
+    let operations = Operations { kinds, lengths };
+    let plan = Plan {
+        operations,
+        coded: true,
+    };
+    by_points(words, value, &plan);
 }
 
 // As `celadonsaw_step`, with a packet error code: advances, and tells the access that is next.

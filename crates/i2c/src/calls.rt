@@ -8,6 +8,7 @@ ghost use Rattle.master.specs.Transfer.{read_call, write_call, write_read_call, 
 use super::forms::Way;
 use regs::access::Ran;
 use transfer::Mode;
+use transfer::operations::Operations;
 
 // A call without a packet error code.
 fn plain(mode: Mode, address: u16) -> Way
@@ -73,7 +74,13 @@ pub fn transaction(
         log.old readings.now read.old tt)
         log.old log.new read.new result }
 {
-    plain(Mode::Blocking, address).transact(kinds, lengths, write, read, readings, log)
+    plain(Mode::Blocking, address).transact(
+        &Operations { kinds, lengths },
+        write,
+        read,
+        readings,
+        log,
+    )
 }
 
 // Reads from the address into the buffer, by polls.
@@ -129,5 +136,5 @@ pub fn transaction_async(
         log.old readings.now read.old tt)
         log.old log.new read.new result }
 {
-    plain(Mode::Async, address).transact(kinds, lengths, write, read, readings, log)
+    plain(Mode::Async, address).transact(&Operations { kinds, lengths }, write, read, readings, log)
 }

@@ -9,6 +9,7 @@ ghost use Rattle.master.specs.Operations as Spec;
 use super::forms::Way;
 use regs::access::Ran;
 use transfer::Mode;
+use transfer::operations::Operations;
 
 // A call with a packet error code.
 fn with_code(mode: Mode, address: u16) -> Way
@@ -76,7 +77,13 @@ pub fn transaction_pec(
         log.old readings.now read.old tt)
         log.old log.new read.new result }
 {
-    with_code(Mode::Blocking, address).transact(kinds, lengths, write, read, readings, log)
+    with_code(Mode::Blocking, address).transact(
+        &Operations { kinds, lengths },
+        write,
+        read,
+        readings,
+        log,
+    )
 }
 
 // Reads from the address into the buffer and tests the code that follows, by polls.
@@ -134,5 +141,11 @@ pub fn transaction_async_pec(
         log.old readings.now read.old tt)
         log.old log.new read.new result }
 {
-    with_code(Mode::Async, address).transact(kinds, lengths, write, read, readings, log)
+    with_code(Mode::Async, address).transact(
+        &Operations { kinds, lengths },
+        write,
+        read,
+        readings,
+        log,
+    )
 }

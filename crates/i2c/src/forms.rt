@@ -14,6 +14,7 @@ ghost use Rattle.transfer.specs.Inner.Machine.{machine, started};
 use super::limits::{are_fitting, is_fitting, is_listed, refuse};
 use regs::access::Ran;
 use transfer::Mode;
+use transfer::operations::{Operations, Plan};
 use transfer_code::code::Message;
 use transfer_code::settle::settle;
 use transfer_run::drive;
@@ -31,33 +32,38 @@ impl Way {
     fn run(
         self,
         restart: bool,
-        kinds: &[u8],
-        lengths: &[u16],
+        operations: &Operations,
         write: &[u8],
         read: &mut [u8],
         readings: &[u32],
         log: &mut [u32],
     ) -> Ran
-        requires { lists kinds.now lengths.now (length write.now) (length read.old) ≡ true }
+        requires { lists operations.now.kinds.now operations.now.lengths.now (length write.now)
+            (length read.old) ≡ true }
         ensures plain { self.coded ≡ false → final result.reply result.entries result.used log.new
             read.new tt
-            ≡ ran (machine false kinds.now lengths.now write.now) readings.now (length log.old / 2)
-            (started self.mode restart self.address kinds.now) 0 0 log.old read.old }
+            ≡ ran (machine false operations.now.kinds.now operations.now.lengths.now write.now)
+            readings.now (length log.old / 2)
+            (started self.mode restart self.address operations.now.kinds.now) 0 0 log.old read.old }
         ensures coded { self.coded ≡ true → LeavesBuffer
             (expected
-            (watched (coder self.address (listed kinds.now lengths.now write.now))
+            (watched (coder self.address (listed operations.now.kinds.now operations.now.lengths.now
+            write.now))
             (longer_transfer reason_of (mode_of self.mode) restart self.address
-            (with_code 0 (listed kinds.now lengths.now write.now))))
+            (with_code 0 (listed operations.now.kinds.now operations.now.lengths.now write.now))))
             log.old readings.now read.old tt)
             log.old log.new read.new result }
     {
-        let t = transfer_steps::start(self.mode, restart, self.address, kinds);
-        let ran = drive(t, self.coded, kinds, lengths, write, readings, log, read);
+        let t = transfer_steps::start(self.mode, restart, self.address, operations);
+        let plan = Plan {
+            operations: *operations,
+            coded: self.coded,
+        };
+        let ran = drive(t, &plan, write, readings, log, read);
         if self.coded {
             let message = Message {
                 address: self.address,
-                kinds,
-                lengths,
+                operations: *operations,
                 write,
                 read: &*read,
             };
@@ -76,7 +82,11 @@ impl Way {
     {
         let n = read.len();
         if is_fitting(n) {
-            self.run(true, &[0u8], &[n as u16], b"", read, readings, log)
+            let operations = Operations {
+                kinds: &[0u8],
+                lengths: &[n as u16],
+            };
+            self.run(true, &operations, b"", read, readings, log)
         } else {
             refuse()
         }
@@ -92,8 +102,12 @@ impl Way {
     {
         let n = write.len();
         if is_fitting(n) {
+            let operations = Operations {
+                kinds: &[1u8],
+                lengths: &[n as u16],
+            };
             let mut none = [0u8; 0];
-            self.run(true, &[1u8], &[n as u16], write, &mut none, readings, log)
+            self.run(true, &operations, write, &mut none, readings, log)
         } else {
             refuse()
         }
@@ -110,25 +124,20 @@ impl Way {
         let m = write.len();
         let n = read.len();
         if are_fitting(m, n) {
-            self.run(
-                true,
-                &[1u8, 0u8],
-                &[m as u16, n as u16],
-                write,
-                read,
-                readings,
-                log,
-            )
+            let operations = Operations {
+                kinds: &[1u8, 0u8],
+                lengths: &[m as u16, n as u16],
+            };
+            self.run(true, &operations, write, read, readings, log)
         } else {
             refuse()
         }
     }
 
-    // Does the operations that kinds and lengths list.
+    // Does the operations.
     pub fn transact(
         self,
-        kinds: &[u8],
-        lengths: &[u16],
+        operations: &Operations,
         write: &[u8],
         read: &mut [u8],
         readings: &[u32],
@@ -136,12 +145,12 @@ impl Way {
     ) -> Ran
         ensures { LeavesBuffer
             (expected (program_by self.coded (mode_of self.mode) self.address
-            (transacts kinds.now lengths.now write.now read.old))
+            (transacts operations.now.kinds.now operations.now.lengths.now write.now read.old))
             log.old readings.now read.old tt)
             log.old log.new read.new result }
     {
-        if is_listed(kinds, lengths, write.len(), read.len()) {
-            self.run(false, kinds, lengths, write, read, readings, log)
+        if is_listed(operations, write.len(), read.len()) {
+            self.run(false, operations, write, read, readings, log)
         } else {
             refuse()
         }

@@ -5,6 +5,7 @@ ghost use Rattle.i2c.specs.Inner.Limits.{sums_with, sums_of, refused_over};
 
 use regs::access::Ran;
 use regs::answers::{Answer, Refusal, Reply};
+use transfer::operations::Operations;
 
 pub const MOST_BYTES: usize = 4096;
 
@@ -18,7 +19,8 @@ pub struct Sums {
 }
 
 impl Sums {
-    // With one operation more, if its kind is a write or a read.
+    // With one operation more, if its kind is a write or a read. The kind stays a number here: it is
+    // as callers in C list it, and this is the place that turns down every number but 0 and 1.
     #[tactic(auto, unfolding(crate::specs::Inner::Limits::sums_with))]
     fn with(self, kind: u8, n: usize) -> Option<Sums>
         requires { (self.written + n < 2 ^ 64) × (self.room + n < 2 ^ 64) }
@@ -61,27 +63,30 @@ pub fn are_fitting(m: usize, n: usize) -> bool
 }
 
 // Adds the lengths of each kind; none where a kind is neither.
-fn add_all(kinds: &[u8], lengths: &[u16]) -> Option<Sums>
-    requires { (length kinds.now ≡ length lengths.now)
-        × (length kinds.now ≤ 64) }
-    ensures { result ≡ sums_of record { written = 0; room = 0 } kinds.now lengths.now }
+fn add_all(operations: &Operations) -> Option<Sums>
+    requires { (length operations.now.kinds.now ≡ length operations.now.lengths.now)
+        × (length operations.now.kinds.now ≤ 64) }
+    ensures { result ≡ sums_of record { written = 0; room = 0 } operations.now.kinds.now
+        operations.now.lengths.now }
 {
     let mut sums = Sums {
         written: 0,
         room: 0,
     };
+    let Operations { kinds, lengths } = *operations;
     for (kind, n) in kinds.iter().zip(lengths) {
         sums = sums.with(*kind, usize::from(*n))?;
     }
     Some(sums)
 }
 
-// Whether kinds and lengths list operations within the limits that add up to the lent buffers.
-pub fn is_listed(kinds: &[u8], lengths: &[u16], written: usize, room: usize) -> bool
-    ensures { result ≡ lists kinds.now lengths.now written room }
+// Whether these are operations within the limits that add up to the lent buffers.
+pub fn is_listed(operations: &Operations, written: usize, room: usize) -> bool
+    ensures { result ≡ lists operations.now.kinds.now operations.now.lengths.now written room }
 {
-    if kinds.len() == lengths.len() && kinds.len() <= MOST_OPERATIONS {
-        (add_all(kinds, lengths) == Some(Sums { written, room })) & are_fitting(written, room)
+    let kinds = operations.kinds.len();
+    if kinds == operations.lengths.len() && kinds <= MOST_OPERATIONS {
+        (add_all(operations) == Some(Sums { written, room })) & are_fitting(written, room)
     } else {
         false
     }

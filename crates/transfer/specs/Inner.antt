@@ -1,3 +1,4 @@
 -- Definitions that only the contracts of inner functions cite: no public statement rests on believing them.
 pub mod Machine
+pub mod Operations
 pub mod Points

@@ -4,6 +4,7 @@
 #![tactic(auto)]
 
 pub mod counts; // places of the FIFO, and places in a buffer
+pub mod operations; // what is to be done, as the caller lists it
 
 ghost use Rattle.std.specs.Prelude.{◌≡◌};
 ghost use Rattle.transfer.specs.Inner.Points.{with_point};

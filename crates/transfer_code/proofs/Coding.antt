@@ -20,11 +20,12 @@ use Rattle.master.specs.Operations.{listed, total, known, lists, READ, WRITE}
 use Rattle.master.specs.Coded.{code_of}
 use Rattle.master.specs.Inner.Message.{opened, message_from}
 use Rattle.master.proofs.MessageFrom.{message_is}
-use Rattle.transfer_code.specs.Inner.Coding.{direction_of, last_number, number, low_address, over_nothing, Room, with_operation}
+use Rattle.transfer.specs.Inner.Operations.{direction_of, number}
+use Rattle.transfer_code.specs.Inner.Coding.{last_number, low_address, over_nothing, Room, with_operation}
 use Rattle.transfer_code.specs.declared.code.Coding.{Coding}
-use Rattle.transfer_code.specs.declared.code.Direction.{Direction}
-use Rattle.transfer_code.specs.declared.code.Direction.TheVariants.{Read, Write}
-use Rattle.transfer_code.specs.contracts.code.DirectionPartialEq.TheImpl as equality
+use Rattle.transfer.specs.declared.operations.Direction.{Direction}
+use Rattle.transfer.specs.declared.operations.Direction.TheVariants.{Read, Write}
+use Rattle.transfer.specs.contracts.operations.DirectionPartialEq.TheImpl as equality
 
 -- behind an operation of the same direction there is no address byte
 pub opened_same : (crc address : ℕ) (direction : Direction) (last : Option Direction)

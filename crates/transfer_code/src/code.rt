@@ -1,86 +1,20 @@
-// The packet error code of a message: the operations that kinds and lengths list, with the bytes to write,
+// The packet error code of a message: its operations in order, with the bytes to write,
 // the bytes that were read, and an address byte where the direction changes.
 ghost use Rattle.std.specs.Prelude.{true, ◌≡◌, length};
 ghost use Rattle.master.specs.Operations.{lists};
 
-use regs::fields::byte_of;
-
-// The direction of an operation.
-#[derive(Clone, Copy, PartialEq, Eq)]
-pub enum Direction {
-    Read,
-    Write,
-}
-
-// 1 is a write, and any other number a read: callers in C list operations by numbers.
-impl From<u8> for Direction {
-    ghost use Rattle.transfer_code.specs.Inner.Coding.{direction_of};
-
-    ghost from_gives = { λ kind direction. direction ≡ direction_of kind };
-
-    fn from(kind: u8) -> Direction {
-        if kind == 1 {
-            Direction::Write
-        } else {
-            Direction::Read
-        }
-    }
-}
-
-// And back.
-impl From<Direction> for u8 {
-    ghost use Rattle.transfer_code.specs.Inner.Coding.{number};
-
-    ghost from_gives = { λ direction kind. kind ≡ number direction };
-
-    fn from(direction: Direction) -> u8 {
-        match direction {
-            Direction::Read => 0,
-            Direction::Write => 1,
-        }
-    }
-}
-
-impl Direction {
-    ghost use Rattle.transfer_code.specs.Inner.Coding.{low_address, number};
-
-    // The address byte before an operation: of an address above 0x7F its lower 8 bits.
-    fn address_byte(self, address: u16) -> u8
-        ensures { result ≡ low_address address (number self) }
-    {
-        let twice = address as u32 * 2;
-        match self {
-            Direction::Write => byte_of(twice),
-            Direction::Read => byte_of(twice + 1),
-        }
-    }
-
-    ghost use Rattle.crc8.specs.Crc8.{crc8_from};
-    ghost use Rattle.master.specs.Inner.Message.{opened};
-    ghost use Rattle.transfer_code.specs.Inner.Coding.{last_number};
-
-    // The register before the bytes of an operation: the address byte is taken in first where the
-    // operation before was of another direction, or there was none.
-    pub fn opening(self, crc: u8, address: u16, last: Option<Direction>) -> u8
-        ensures { result ≡ crc8_from crc (opened address (last_number last) (number self)) }
-    {
-        if last == Some(self) {
-            crc
-        } else {
-            crc8::next(crc, self.address_byte(address))
-        }
-    }
-}
+use super::address::opening;
+use transfer::operations::{Direction, Operations};
 
 // A transfer whose code is computed: its operations, and the buffers in which their bytes lie.
 #[derive(Clone, Copy)]
 pub struct Message<'a> {
     pub address: u16,
-    pub kinds: &'a [u8],
-    pub lengths: &'a [u16],
+    pub operations: Operations<'a>,
     pub write: &'a [u8],
     pub read: &'a [u8],
-    pub ghost listed: { lists kinds.now lengths.now (length write.now) (length read.now) ≡ true },
+    pub ghost listed: { lists operations.kinds.now operations.lengths.now
+        (length write.now) (length read.now) ≡ true },
 }
 
 impl Message<'_> {
@@ -91,7 +25,8 @@ impl Message<'_> {
         ensures { result ≡ code_of_message self.now }
     {
         let mut coding = Coding::start();
-        for (kind, n) in self.kinds.iter().zip(self.lengths) {
+        let operations = self.operations;
+        for (kind, n) in operations.kinds.iter().zip(operations.lengths) {
             coding = coding.with_operation(self, Direction::from(*kind), usize::from(*n));
         }
         coding.crc
@@ -127,7 +62,7 @@ impl Coding {
         ensures { result ≡ with_operation message.now.address self direction n message.now.write.now
             message.now.read.now }
     {
-        let crc = direction.opening(self.crc, message.address, self.last);
+        let crc = opening(self.crc, message.address, self.last, direction);
         let last = Some(direction);
         match direction {
             Direction::Write => {

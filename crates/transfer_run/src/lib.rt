@@ -9,33 +9,30 @@ ghost use Rattle.transfer_run.specs.Inner.Steps.{Steps};
 use regs::access::{Ran, Recording};
 use regs::answers::Reply;
 use transfer::Transfer;
+use transfer::operations::Plan;
 
 // What goes ahead in one loop from here, and one access; or the run ends.
 fn step(
     t: Transfer,
-    coded: bool,
-    kinds: &[u8],
-    lengths: &[u16],
+    plan: &Plan,
     bytes: &[u8],
     recording: &mut Recording,
     buffer: &mut [u8],
 ) -> Result<Transfer, Reply>
-    ensures { Steps coded kinds.now lengths.now bytes.now t recording.old buffer.old
-        recording.new buffer.new result }
+    ensures { Steps plan.now.coded plan.now.operations.kinds.now plan.now.operations.lengths.now
+        bytes.now t recording.old buffer.old recording.new buffer.new result }
 {
     let reached = transfer_fast::ahead_from(t, bytes, recording, buffer);
-    let s = transfer_steps::moved(t, Ok(reached), coded, kinds, lengths);
+    let s = transfer_steps::moved(t, Ok(reached), plan);
     let v = recording.perform(transfer_access::next_access(s, bytes))?;
     regs::access::keep(buffer, transfer_access::store(s, v));
-    Ok(transfer_steps::advance(s, v, coded, kinds, lengths))
+    Ok(transfer_steps::advance(s, v, plan))
 }
 
-// The steps from a transfer to its end. Kinds stay numbers: C lends them as a slice of bytes.
+// The steps from a transfer to its end.
 pub fn drive(
     from: Transfer,
-    coded: bool,
-    kinds: &[u8],
-    lengths: &[u16],
+    plan: &Plan,
     bytes: &[u8],
     readings: &[u32],
     log: &mut [u32],
@@ -43,14 +40,15 @@ pub fn drive(
 ) -> Ran
     ensures { final result.reply result.entries result.used log.new buffer.new tt
         ≡ ran
-        (machine coded kinds.now lengths.now bytes.now)
+        (machine plan.now.coded plan.now.operations.kinds.now plan.now.operations.lengths.now
+        bytes.now)
         readings.now (length log.old / 2) from 0 0 log.old
         buffer.old }
 {
     let mut recording = Recording::new(readings, log);
     let mut t = from;
     loop {
-        match step(t, coded, kinds, lengths, bytes, &mut recording, buffer) {
+        match step(t, plan, bytes, &mut recording, buffer) {
             Ok(next) => t = next,
             Err(reply) => return recording.ran(reply),
         }

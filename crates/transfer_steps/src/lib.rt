@@ -4,11 +4,13 @@
 
 ghost use Rattle.std.specs.Prelude.{◌≡◌};
 ghost use Rattle.transfer.specs.Inner.Machine.{write_point, read_point, opened};
-ghost use Rattle.transfer.specs.Inner.Machine.{longer_length, length_for, begun};
+ghost use Rattle.transfer.specs.Inner.Machine.{length_for, begun};
 ghost use Rattle.transfer.specs.Inner.Machine.{moved_to, advance_of, tested_point, first_point, started};
+ghost use Rattle.transfer.specs.Inner.Operations.{number};
 
 use regs::answers::{Answer, Refusal};
 use transfer::counts::sum;
+use transfer::operations::{Direction, Operations, Plan};
 use transfer::{
     FillPoint, Mode, Operation, Point, ReadPoint, Round, RoundPoint, SetupPoint, Step, Transfer,
     WritePoint,
@@ -17,13 +19,13 @@ use transfer_after::step_of;
 
 // Where a packet error code goes with the transfer, an empty write is refused in both modes.
 #[tactic(auto, unfolding(transfer::specs::Inner::Machine::write_point))]
-fn first_of_write(mode: Mode, coded: bool, len: u16) -> Point
-    ensures { result ≡ write_point coded mode len }
+fn first_of_write(mode: Mode, plan: &Plan, len: u16) -> Point
+    ensures { result ≡ write_point plan.now.coded mode len }
 {
     let refused = Point::Finished(Answer::Refused(Refusal::InvalidWriteBufferLength));
     match mode {
         Mode::Blocking if len == 0 => refused,
-        Mode::Async if coded && len == 0 => refused,
+        Mode::Async if plan.coded && len == 0 => refused,
         Mode::Blocking => Point::WriteBlocking(WritePoint::Send(0)),
         Mode::Async => Point::WriteAsync(FillPoint::Free(0)),
     }
@@ -46,13 +48,15 @@ fn first_of_read(mode: Mode, len: u16) -> Point
     }
 }
 
-// The n-th operation, of this kind and length.
+// The n-th operation, in this direction and of this length.
 #[tactic(auto, unfolding(transfer::specs::Inner::Machine::opened, transfer::specs::Inner::Machine::opened_write, transfer::specs::Inner::Machine::opened_read))]
-fn open(t: Transfer, coded: bool, n: usize, kind: u8, len: u16, last: bool) -> Transfer
-    ensures { result ≡ opened coded t n kind len last }
+fn open(t: Transfer, plan: &Plan, n: usize, direction: Direction, len: u16, last: bool) -> Transfer
+    ensures { result ≡ opened plan.now.coded t n (number direction) len last }
 {
-    let write = kind == 1;
-    let at = if write { t.writes } else { t.reads };
+    let at = match direction {
+        Direction::Write => t.writes,
+        Direction::Read => t.reads,
+    };
     let opened = Transfer {
         operation: Operation {
             at,
@@ -64,79 +68,76 @@ fn open(t: Transfer, coded: bool, n: usize, kind: u8, len: u16, last: bool) -> T
         ..t
     };
     let end = sum(at, len);
-    if write {
-        Transfer {
-            point: first_of_write(t.mode, coded, len),
+    match direction {
+        Direction::Write => Transfer {
+            point: first_of_write(t.mode, plan, len),
             writes: end,
             ..opened
-        }
-    } else {
-        Transfer {
+        },
+        Direction::Read => Transfer {
             point: first_of_read(t.mode, len),
             reads: end,
             ..opened
-        }
+        },
     }
 }
 
-// With a byte more for the code. 0 stays 0 and is refused when it is reached; 65,535 stays, since a
-// length has 16 bits (the limits keep it far below).
-#[tactic(auto, unfolding(transfer::specs::Inner::Machine::longer_length))]
-fn one_longer(len: u16) -> u16
-    ensures { result ≡ longer_length len }
+// The last operation has a byte more, the place of the packet error code. Without data it has none and is
+// refused when it is reached; 65,535 stays, since a length has 16 bits (the limits keep it far below).
+#[tactic(auto, unfolding(transfer::specs::Inner::Machine::length_for, transfer::specs::Inner::Machine::longer_length))]
+fn length_for_code(plan: &Plan, last: bool, len: u16) -> u16
+    ensures { result ≡ length_for plan.now.coded last len }
 {
-    if len == 0 { 0 } else { len.saturating_add(1) }
-}
-
-// The last operation has a place for the packet error code.
-#[tactic(auto, unfolding(transfer::specs::Inner::Machine::length_for))]
-fn length_for_code(coded: bool, last: bool, len: u16) -> u16
-    ensures { result ≡ length_for coded last len }
-{
-    if coded & last { one_longer(len) } else { len }
+    if plan.coded & last && len != 0 {
+        len.saturating_add(1)
+    } else {
+        len
+    }
 }
 
 // The next operation, or the end.
-#[tactic(auto, unfolding(transfer::specs::Inner::Machine::begun))]
-fn begin(t: Transfer, coded: bool, kinds: &[u8], lengths: &[u16]) -> Transfer
-    ensures { result ≡ begun coded kinds.now lengths.now t }
+#[tactic(auto, unfolding(transfer::specs::Inner::Machine::begun, transfer::specs::Inner::Operations::listed_at))]
+fn begin(t: Transfer, plan: &Plan) -> Transfer
+    ensures { result ≡ begun plan.now.coded plan.now.operations.kinds.now plan.now.operations.lengths.now t }
 {
     let k = t.begun;
-    let all = kinds.len();
-    if k < all {
-        let n = k + 1;
-        let last = n == all;
-        let len = lengths.get(k).copied().unwrap_or(0);
-        open(
-            t,
-            coded,
-            n,
-            kinds[k],
-            length_for_code(coded, last, len),
-            last,
-        )
-    } else {
-        t.at_point(Point::Finished(Answer::Accepted))
+    let all = plan.operations.len();
+    match plan.operations.get(k) {
+        Some((direction, len)) => {
+            let n = k + 1;
+            let last = n == all;
+            open(
+                t,
+                plan,
+                n,
+                direction,
+                length_for_code(plan, last, len),
+                last,
+            )
+        }
+        None => t.at_point(Point::Finished(Answer::Accepted)),
     }
 }
 
 // The point, or the next operation.
-pub fn moved(t: Transfer, s: Step, coded: bool, kinds: &[u8], lengths: &[u16]) -> Transfer
-    ensures { result ≡ moved_to coded kinds.now lengths.now t s }
+pub fn moved(t: Transfer, s: Step, plan: &Plan) -> Transfer
+    ensures { result ≡ moved_to plan.now.coded plan.now.operations.kinds.now
+        plan.now.operations.lengths.now t s }
 {
     match s {
         Ok(Some(p)) => t.at_point(p),
-        Ok(None) => begin(t, coded, kinds, lengths),
+        Ok(None) => begin(t, plan),
         Err(r) => t.at_point(Point::Finished(Answer::Refused(r))),
     }
 }
 
 // What the Rust does from an access, which read v, up to the next one.
-pub fn advance(t: Transfer, v: u32, coded: bool, kinds: &[u8], lengths: &[u16]) -> Transfer
-    ensures { result ≡ advance_of coded kinds.now lengths.now t v }
+pub fn advance(t: Transfer, v: u32, plan: &Plan) -> Transfer
+    ensures { result ≡ advance_of plan.now.coded plan.now.operations.kinds.now
+        plan.now.operations.lengths.now t v }
 {
     let step = step_of(t.operation, t.point, v);
-    moved(t, step, coded, kinds, lengths)
+    moved(t, step, plan)
 }
 
 // The address is tested, then the block is disabled.
@@ -165,8 +166,8 @@ fn first_of(mode: Mode, address: u16, none: bool) -> Point
 
 // A transfer before its first access, of operations within the
 // limits. `restart`: a read's first word carries the RESTART flag.
-pub fn start(mode: Mode, restart: bool, address: u16, kinds: &[u8]) -> Transfer
-    ensures { result ≡ started mode restart address kinds.now }
+pub fn start(mode: Mode, restart: bool, address: u16, operations: &Operations) -> Transfer
+    ensures { result ≡ started mode restart address operations.now.kinds.now }
 {
     let operation = Operation {
         at: 0,
@@ -175,7 +176,7 @@ pub fn start(mode: Mode, restart: bool, address: u16, kinds: &[u8]) -> Transfer
         send_stop: false,
     };
     Transfer {
-        point: first_of(mode, address, kinds.is_empty()),
+        point: first_of(mode, address, operations.len() == 0),
         mode,
         address,
         operation,

@@ -6,13 +6,13 @@ ghost use Rattle.std.specs.Prelude.{◌≡◌};
 ghost use Rattle.crc8.specs.Crc8.{crc8_from};
 ghost use Rattle.master.specs.Inner.Message.{opened};
 ghost use Rattle.master.specs.Inner.Running.{with_byte};
-ghost use Rattle.transfer_code.specs.Inner.Coding.{number};
+ghost use Rattle.transfer.specs.Inner.Operations.{number};
 ghost use Rattle.words_code.specs.Inner.Code.{fresh_sum, sum_in, word_by, number_by};
 ghost use Rattle.words_code.specs.Inner.Code.{fed_by};
 
 use regs::DATA_CMD;
 use regs::fields::{byte_of, has_stop, is_read, word_of};
-use transfer_code::code::Direction;
+use transfer::operations::Direction;
 
 // The register before the bytes of an operation, with the kind of the operation and of the one
 // before by number: the address byte is taken in first where they differ. Any number is a kind, as
@@ -23,7 +23,7 @@ pub fn opening(crc: u8, address: u16, last: u8, kind: u8) -> u8
     if last == kind {
         crc
     } else {
-        Direction::from(kind).opening(crc, address, None)
+        transfer_code::address::opening(crc, address, None, Direction::from(kind))
     }
 }
 

@@ -5,25 +5,19 @@ use Rattle.regs.specs.Fields.{dat}
 use Rattle.master.specs.Operations.{READ, WRITE, listed}
 use Rattle.master.specs.Coded.{code_of}
 use Rattle.master.specs.Inner.Message.{NO_KIND, opened}
+use Rattle.transfer.specs.Inner.Operations.{number}
+use Rattle.transfer.specs.declared.operations.Direction.{Direction}
+use Rattle.transfer.specs.declared.operations.Direction.TheVariants.{Read, Write}
 use Rattle.transfer_code.specs.declared.code.Coding.{Coding}
-use Rattle.transfer_code.specs.declared.code.Direction.{Direction}
-use Rattle.transfer_code.specs.declared.code.Direction.TheVariants.{Read, Write}
 use Rattle.transfer_code.specs.declared.code.Message.{Message}
 
--- the number of a direction, and the direction of a number: any but a write's is a read's
-abbrev pub number : Direction → ℕ
-number Read = READ
-number Write = WRITE
-
-abbrev pub direction_of : ℕ → Direction
-direction_of kind = if eqb kind WRITE then Write else Read
-
+-- the number of the direction before, or none
 abbrev pub last_number : Option Direction → ℕ
 last_number None = NO_KIND
 last_number (Some direction) = number direction
 
 abbrev pub code_of_message : Message → ℕ
-code_of_message m = code_of m.address (listed m.kinds.now m.lengths.now m.write.now) m.read.now
+code_of_message m = code_of m.address (listed m.operations.kinds.now m.operations.lengths.now m.write.now) m.read.now
 
 -- the register takes the lower 8 bits of an address byte
 abbrev pub low_address : ℕ → ℕ → ℕ

@@ -10,7 +10,7 @@ use Rattle.transfer_run.proofs.drive.Given as goal
 abbrev pub invariant-loop-next : goal.invariant-loop-next
 invariant-loop-next l =
     Keeps l.initial.recording l.recording
-    × Reaches (machine l.coded l.kinds l.lengths l.bytes) l.recording.readings.now l.initial.t 0 0 l.initial.recording.log.now
+    × Reaches (machine l.plan.coded l.plan.operations.kinds.now l.plan.operations.lengths.now l.bytes) l.recording.readings.now l.initial.t 0 0 l.initial.recording.log.now
     l.initial.buffer l.t l.recording.entries l.recording.used l.recording.log.now l.buffer
 
 abbrev pub decreases-loop-next : goal.decreases-loop-next

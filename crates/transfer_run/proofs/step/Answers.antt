@@ -9,19 +9,19 @@ use Rattle.transfer_run.proofs.step.Goals as goal
 
 pub returns-in_err-v : goal.returns-in_err-v
 returns-in_err-v c =
-    let args = c.args in
+    let plan = c.args.plan.now in
     let a = c.ahead_from-reached.ensures in
-    let g = rw (← c.moved-s.ensures, ← a.keeps.readings) at (a.reaches args.coded args.kinds.now args.lengths.now) in
+    let g = rw (← c.moved-s.ensures, ← a.keeps.readings) at (a.reaches plan.coded plan.operations.kinds.now plan.operations.lengths.now) in
     let h = rw a.keeps.readings at (ends g (recording_halts g c.next_access.ensures c.perform.ensures c.in_err-v.was)) in
     let is : c.from_residual.result ≡ Err c.in_err-v.field-0.0 = search rules in
     rw is (keeps_on a.keeps c.perform.ensures.keeps, h)
 
 pub returns : goal.returns
 returns c =
-    let args = c.args in
+    let plan = c.args.plan.now in
     let a = c.ahead_from-reached.ensures in
     let p = c.perform.ensures in
-    let g = rw (← c.moved-s.ensures, ← a.keeps.readings) at (a.reaches args.coded args.kinds.now args.lengths.now) in
+    let g = rw (← c.moved-s.ensures, ← a.keeps.readings) at (a.reaches plan.coded plan.operations.kinds.now plan.operations.lengths.now) in
     let h = rw (p.keeps.readings, a.keeps.readings) at (recording_goes g c.next_access.ensures p c.in_ok-v.was
     c.store.ensures c.keep.ensures c.advance.ensures) in
     let mid = c.ahead_from-reached.new.recording in

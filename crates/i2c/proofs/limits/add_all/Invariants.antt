@@ -5,4 +5,4 @@ use lib.ListN.{length}
 use Rattle.i2c.proofs.limits.add_all.Given as goal
 
 abbrev pub invariant-loop-kind : goal.invariant-loop-kind
-invariant-loop-kind l = Adding l.kinds l.lengths l.sums (length l.yielded)
+invariant-loop-kind l = Adding l.operations.kinds.now l.operations.lengths.now l.sums (length l.yielded)

@@ -10,9 +10,9 @@ use Rattle.i2c.proofs.limits.is_listed.Goals as goal
 
 pub returns-then-kinds-le-MOST_OPERATIONS : goal.returns-then-kinds-le-MOST_OPERATIONS
 returns-then-kinds-le-MOST_OPERATIONS c =
-    let kinds = c.args.kinds.now in
-    let lengths = c.args.lengths.now in
-    let same = c.if-kinds-lengths.true in
+    let kinds = c.args.operations.now.kinds.now in
+    let lengths = c.args.operations.now.lengths.now in
+    let same = c.if-kinds-operations.true in
     rw (
       c.eq.ensures,
       c.add_all.ensures,

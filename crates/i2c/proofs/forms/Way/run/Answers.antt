@@ -10,13 +10,13 @@ invariant_of-message c = record { listed = rw c.drive-ran.auto.buffer c.requires
 
 pub settle-requires : goal.settle-requires
 settle-requires c = let args = c.args in let way = args.self in
-    entries_fit way.mode args.restart way.address args.kinds.now args.lengths.now
+    entries_fit way.mode args.restart way.address args.operations.now.kinds.now args.operations.now.lengths.now
     args.write.now args.readings.now args.log.now _ args.read.now _ c.requires
     c.start-t.ensures (rw c.if-self.true at c.drive-ran.ensures)
 
 pub returns-then-self-clause-coded : goal.returns-then-self-clause-coded
 returns-then-self-clause-coded c = λ is. let args = c.args in let way = args.self in
-    coded_leaves way.mode args.restart way.address args.kinds.now args.lengths.now
+    coded_leaves way.mode args.restart way.address args.operations.now.kinds.now args.operations.now.lengths.now
     args.write.now args.readings.now args.log.now _ args.read.now _ c.requires
     c.start-t.ensures (rw c.if-self.true at c.drive-ran.ensures)
     (λ i. omega (arith, c.type_inv.write i)) c.settle.ensures

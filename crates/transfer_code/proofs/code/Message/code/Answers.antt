@@ -12,8 +12,8 @@ loop-kind-init c = rw c.start-coding.ensures (begun _ _ _ _ _ c.args.self.now.li
 
 pub with_operation-coding-requires : goal.with_operation-coding-requires
 with_operation-coding-requires c =
-    let kinds = c.args.self.now.kinds.now in
-    let lengths = c.args.self.now.lengths.now in
+    let kinds = c.args.self.now.operations.kinds.now in
+    let lengths = c.args.self.now.operations.lengths.now in
     let turn = zip_turn kinds lengths c.loop-kind.yielded c.into_iter-kind-iterator.result c.loop-kind.kind-iterator
     c.next.new.self c.next.result (search rules) (search rules)
     c.loop-kind.yielded_by (c.in-Some.kind, c.in-Some.n) c.in-Some.is c.next.ensures.steps in
@@ -21,8 +21,8 @@ with_operation-coding-requires c =
 
 pub loop-kind-preserved : goal.loop-kind-preserved
 loop-kind-preserved c =
-    let kinds = c.args.self.now.kinds.now in
-    let lengths = c.args.self.now.lengths.now in
+    let kinds = c.args.self.now.operations.kinds.now in
+    let lengths = c.args.self.now.operations.lengths.now in
     let turn = zip_turn kinds lengths c.loop-kind.yielded c.into_iter-kind-iterator.result c.loop-kind.kind-iterator
     c.next.new.self c.next.result (search rules) (search rules)
     c.loop-kind.yielded_by (c.in-Some.kind, c.in-Some.n) c.in-Some.is c.next.ensures.steps in
@@ -32,8 +32,8 @@ loop-kind-preserved c =
 
 pub returns : goal.returns
 returns c =
-    let kinds = c.args.self.now.kinds.now in
-    let lengths = c.args.self.now.lengths.now in
+    let kinds = c.args.self.now.operations.kinds.now in
+    let lengths = c.args.self.now.operations.lengths.now in
     let all = zip_end kinds lengths c.loop-kind.yielded c.into_iter-kind-iterator.result c.loop-kind.kind-iterator
     c.next.new.self c.next.result (search rules) (search rules)
     c.loop-kind.yielded_by c.in-None.is c.next.ensures.steps in

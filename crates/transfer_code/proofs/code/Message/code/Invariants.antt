@@ -6,4 +6,5 @@ use Rattle.transfer_code.proofs.code.Message.code.Given as goal
 
 abbrev pub invariant-loop-kind : goal.invariant-loop-kind
 invariant-loop-kind l =
-    Going l.self.address l.self.kinds.now l.self.lengths.now l.self.write.now l.self.read.now l.coding (length l.yielded)
+    Going l.self.address l.self.operations.kinds.now l.self.operations.lengths.now l.self.write.now l.self.read.now l.coding
+    (length l.yielded)

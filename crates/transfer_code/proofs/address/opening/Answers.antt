@@ -3,7 +3,7 @@
 use mathlib.Core.Path.{sym, ap, ◌∙◌}
 use Rattle.crc8.specs.Crc8.{after_byte}
 use Rattle.transfer_code.proofs.Coding.{opened_same, opened_other}
-use Rattle.transfer_code.proofs.code.Direction.opening.Goals as goal
+use Rattle.transfer_code.proofs.address.opening.Goals as goal
 
 pub returns-then-eq : goal.returns-then-eq
 returns-then-eq c = opened_same _ _ _ _ (sym c.eq.ensures ∙ c.if-eq.true)
