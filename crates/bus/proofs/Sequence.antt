@@ -1,13 +1,14 @@
 -- A log read entry by entry, and the sequence put down word by word: what is still to be put from here on is the rest of the whole.
-use Prim.Native.Nat.{ℕ, suc, ◌+◌, ◌*◌, ◌/◌, ◌<◌, ◌≤◌}
+use Prim.Native.Nat.{ℕ, zero, suc, ◌+◌, ◌*◌, ◌/◌, ◌<◌, ◌≤◌}
 use native.Mathlib.Omega.{arith}
 use native.Mathlib.Nat.{add-zero}
 use mathlib.Core.Bool.{Bool, true, false}
 use mathlib.Core.List.{List, [], ◌∷◌, ◌++◌}
 use mathlib.Core.Path.{◌≡◌, refl, ap, sym, ◌∙◌}
 use lib.Dec.{eqb}
-use lib.ListN.{length, get_or, set, drop, length-append}
-use lib.Seq.{sets}
+use lib.ListN.{length, get_or, set, take, drop, length-append}
+use lib.Seq.{sets, drop-drop, get_or-take, get_or-drop}
+use Rattle.std.specs.Simd.{first_chunks}
 use Rattle.regs.specs.declared.access.Entry.{Entry}
 use Rattle.regs.specs.declared.access.Entry.TheVariants.{Read, Write, Marked}
 use Rattle.std.specs.Prelude.{if◌then◌else◌, Option, Some, None}
@@ -71,6 +72,29 @@ module _ (r : ℕ) (log : List ℕ) (k : ℕ) {x : Option ℕ} (h : k < length l
 
 pub first_none : (r : ℕ) (log : List ℕ) (k : ℕ) → length log / 2 ≤ k → first r log k ≡ 0
 first_none r log k h = rw (later_end r log k h)
+
+-- the words of entry k, among the pairs of words that a log is made of
+pair_at : (n k : ℕ) (log none : List ℕ) → k < n → get_or (first_chunks 2 n log) k none ≡ take 2 (drop (k * 2) log)
+pair_at zero k log none h = absurd (omega arith)
+pair_at (suc n) zero log none h = refl
+pair_at (suc n) (suc k) log none h =
+    let e : 2 + k * 2 ≡ suc k * 2 = omega arith in
+    pair_at n k (drop 2 log) none (omega arith) ∙ ap (take 2) (drop-drop (k * 2) 2 log ∙ rw e)
+
+pub same_entry : (log : List ℕ) (k : ℕ) (none : List ℕ) {entries : List (List ℕ)}
+    → entries ≡ first_chunks 2 (length log / 2) log
+    → k < length log / 2
+    → entry (get_or (get_or entries k none) 0 0) (get_or (get_or entries k none) 1 0)
+    ≡ entry (get_or log (k * 2) 0) (get_or log (k * 2 + 1) 0)
+same_entry log k none e h = rw (
+  e,
+  pair_at (length log / 2) k log none h,
+  get_or-take 2 (drop (k * 2) log) 0 0 (omega arith),
+  get_or-take 2 (drop (k * 2) log) 1 0 (omega arith),
+  get_or-drop (k * 2) log 0 0,
+  get_or-drop (k * 2) log 1 0,
+  add-zero,
+)
 
 -- ---- the sequence
 

@@ -2,7 +2,7 @@
 // of it (UM10204, and DATA_CMD in the RP2040 datasheet).
 #![tactic(auto)]
 
-ghost use Rattle.std.specs.Prelude.{◌≡◌, ◌&&◌, not, ◌+◌, ◌*◌, ◌/◌, ◌<◌, ◌^◌, [], ◌∷◌, length, get_or, set};
+ghost use Rattle.std.specs.Prelude.{◌≡◌, ◌&&◌, not, ◌+◌, ◌<◌, ◌^◌, [], ◌∷◌, length, get_or, set};
 ghost use Rattle.std.proofs.lemmas.List.Edits.{sets};
 ghost use Rattle.regs.specs.Fields.{restart, address_field};
 ghost use Rattle.regs.specs.Log.{entry, decode, written_to};
@@ -162,7 +162,8 @@ impl Bus {
 }
 
 impl SequenceBuffer<'_> {
-    // Each clause on the room stays: no ghost field says it, since it is of the signs that are put here.
+    // Here and below the clause on `at` stays a clause, not a ghost field: each asks for the places of the
+    // signs that it puts, 1 to 4, so no one fact holds between the calls.
     fn put(&mut self, sign: Sign)
         requires { self.old.at + 1 < 2 ^ 64 }
         ensures same_reference { self.new.places.ghost_name ≡ self.old.places.ghost_name }
@@ -218,13 +219,11 @@ impl SequenceBuffer<'_> {
     }
 }
 
-// What entry k of a log writes to a register, if it writes to it.
-fn written_at(log: &[u32], k: usize, register: u8) -> Option<u32>
-    requires { k < length log.now / 2 }
-    ensures { result ≡ written_by register
-        (entry (get_or log.now (k * 2) 0) (get_or log.now (k * 2 + 1) 0)) }
+// What an entry of a log writes to a register, if it writes to it.
+fn written_in(words: &[u32; 2], register: u8) -> Option<u32>
+    ensures { result ≡ written_by register (entry (get_or words.now 0 0) (get_or words.now 1 0)) }
 {
-    match entry_of(log[k * 2], log[k * 2 + 1]) {
+    match entry_of(words[0], words[1]) {
         Entry::Write(r, v) if r == register => Some(v),
         _ => None,
     }
@@ -235,8 +234,9 @@ fn written_at(log: &[u32], k: usize, register: u8) -> Option<u32>
 pub fn address_in(log: &[u32]) -> u32
     ensures { result ≡ address_field (get_or (written_to TAR (decode log.now)) 0 0) }
 {
-    for k in 0..log.len() / 2 {
-        if let Some(a) = written_at(log, k, regs::TAR) {
+    let (entries, _) = log.as_chunks::<2>();
+    for words in entries {
+        if let Some(a) = written_in(words, regs::TAR) {
             return address_of(a);
         }
     }
@@ -252,8 +252,9 @@ pub fn bus_sequence(log: &[u32], out: &mut [Sign]) -> usize
     let address = address_in(log) as u16;
     let mut sequence = SequenceBuffer { places: out, at: 0 };
     let mut bus = Bus::new();
-    for k in 0..log.len() / 2 {
-        if let Some(w) = written_at(log, k, regs::DATA_CMD) {
+    let (entries, _) = log.as_chunks::<2>();
+    for words in entries {
+        if let Some(w) = written_in(words, regs::DATA_CMD) {
             bus = sequence.put_word(bus, address, w);
         }
     }

@@ -31,8 +31,9 @@ impl fmt::Display for Shown {
     }
 }
 
-// What a buffer holds of a sequence, and the number of places that the whole takes. What cannot
-// be written is missing from the output, and what follows is tried all the same.
+// What a buffer holds of a sequence, and the number of places that the whole takes. The count stays beside
+// the places: it may be larger than what they hold. What cannot be written is missing from the output, and
+// what follows is tried all the same.
 fn say_sequence(rt: HostRuntime, name: &str, places: &[Sign], count: usize) {
     let _ = print!(rt; "{name}");
     for &sign in places.iter().take(count) {
@@ -42,7 +43,8 @@ fn say_sequence(rt: HostRuntime, name: &str, places: &[Sign], count: usize) {
     let _ = println!(rt; " ({count})");
 }
 
-// The sequence of a log, put into the places that are lent for it.
+// The sequence of a log, put into the places that are lent for it. `log` and `places` stay two parameters:
+// the one is read, the other is room to write.
 fn show(rt: HostRuntime, places: &mut [Sign], name: &str, log: &[u32]) {
     let count = bus::bus_sequence(log, places);
     say_sequence(rt, name, places, count);

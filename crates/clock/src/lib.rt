@@ -98,7 +98,8 @@ fn if_reaches(hcnt: u32, lcnt: u32) -> Result<(), Refusal>
 }
 
 impl Wanted {
-    // What is tested before the first access.
+    // What is tested before the first access. `frequency` and `clk` stay two numbers here and in the public
+    // functions: a `Wanted` has only those in range, and callers, C among them, may give any.
     fn new(frequency: u32, clk: u32) -> Result<Wanted, Refusal>
         ensures same { IfOk result (λ w. (w.frequency ≡ frequency) × (w.clk ≡ clk)) }
         ensures in_range { IfOk result (λ w. range w.frequency w.clk ≡ Ok tt) }
@@ -171,8 +172,7 @@ impl Wanted {
     }
 }
 
-// The first access of clock setup, or its refusal. `frequency` and `clk` stay two numbers where they come
-// in: a `Wanted` has only those in range, and callers, C among them, may give any.
+// The first access of clock setup, or its refusal.
 pub fn start(frequency: u32, clk: u32) -> ClockPoint
     ensures { result ≡ start_of frequency clk }
 {

@@ -30,8 +30,9 @@ fn take_in(lanes: &mut [u8; 64], block: &[u8; 64])
     }
 }
 
-// The first block, of at most 64 bytes, at the end of the lanes: the bytes 0 before it do not count.
-// The start value is xored into its first byte.
+// The first block, of at most 64 bytes, at the end of the lanes: the bytes 0 before it do not count. The
+// start value is xored into its first byte. `start` and `bytes` stay two parameters, here and below: the
+// register goes from one message into the next, and its bytes do not.
 fn first_block(start: u8, bytes: &[u8]) -> [u8; 64]
     requires { (0 < length bytes.now) × (length bytes.now ≤ LANES) }
     ensures { crc8 result ≡ crc8_from start bytes.now }

@@ -47,7 +47,8 @@ impl Table {
         self.entries[(crc ^ byte) as usize]
     }
 
-    // Takes the bytes of a message one after the other.
+    // Takes the bytes of a message one after the other. `start` and `bytes` stay two parameters, here and
+    // below: the register goes from one message into the next, and its bytes do not.
     fn crc8_by(&self, start: u8, bytes: &[u8]) -> u8
         ensures { result ≡ crc8_from start bytes.now }
     {

@@ -22,7 +22,8 @@ impl<'a> Sequence<'a> {
     ghost use Rattle.explain_bus.specs.Inner.Whole.{whole, signs_in};
 
     // That of a log, put into the places lent for it. `None` where the log makes too many, or not all of
-    // those that it may make have a place.
+    // those that it may make have a place. `log` and `places` stay two parameters: one is read, one
+    // written.
     pub fn of(log: &[u32], places: &'a mut [Sign]) -> Option<Sequence<'a>>
         ensures { signs_in result ≡ whole log.now (length places.old) }
     {
@@ -39,7 +40,8 @@ impl<'a> Sequence<'a> {
 impl Sequence<'_> {
     fn push_signs(self, text: &mut Text)
         requires { Room (9 * length self.signs.now) text.old }
-        ensures { Added text.old (signs_text 0 self.entry.signs.now) (9 * length self.entry.signs.now) text.new }
+        ensures { Added text.old (signs_text 0 self.entry.signs.now)
+            (9 * length self.entry.signs.now) text.new }
     {
         let mut run: u32 = 0;
         for &sign in self.signs {

@@ -60,7 +60,8 @@ impl Drawn<'_> {
 
     fn push_signs(self, text: &mut Text)
         requires { Room (196 * length self.signs.now) text.old }
-        ensures { Added text.old (signs_text 60 70 self.entry.signs.now) (196 * length self.entry.signs.now) text.new }
+        ensures { Added text.old (signs_text 60 70 self.entry.signs.now)
+            (196 * length self.entry.signs.now) text.new }
     {
         let mut end = FIRST;
         for &sign in self.signs {
@@ -93,8 +94,9 @@ impl Drawn<'_> {
     }
 }
 
-// The picture of a log, in a buffer lent for it; its sequence is put into another. Says how long the text is.
-// That stays a number, 0 where the log puts nothing on the bus: an empty text ends there.
+// The picture of a log, in a buffer lent for it; its sequence is put into another. Says how long the text
+// is. That stays a number, 0 where the log puts nothing on the bus: an empty text ends there. `log` and
+// `places` stay two parameters, as in `Sequence::of`.
 #[tactic(auto, using(text_hex::proofs::Appends::nothing), unfolding(svg_text::specs::Picture::picture))]
 pub fn picture(log: &[u32], places: &mut [Sign], out: &mut [u8]) -> usize
     ensures { Appended out.old 0

@@ -7,7 +7,8 @@ ghost use Rattle.svg_text.specs.Picture.{number_text, opening_text, head_text};
 use text_hex::text::Text;
 use text_tables::decimal::push_digits;
 
-// A coordinate or a count.
+// A coordinate or a count. It stays a function over a text, not a Display: no clause says what a Formatter
+// was given, and the picture is proved byte for byte.
 pub fn push_number(text: &mut Text, n: u32)
     requires { Room 6 text.old }
     ensures { Added text.old (number_text n) 6 text.new }

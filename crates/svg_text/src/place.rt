@@ -12,7 +12,8 @@ pub struct Place {
 }
 
 impl Place {
-    // Where a sign stands, behind one that ends here: in its row, or at the start of the next.
+    // Where a sign stands, behind one that ends here: in its row, or at the start of the next. This stays
+    // a method, not a From: the place is one of many that could be made of a place and a width.
     pub fn of_next(self, width: u32) -> Place
         requires in_row { self.x ≤ 800 }
         requires narrow { width ≤ 108 }
@@ -40,7 +41,7 @@ impl Place {
     {
         Place {
             x: self.x + width,
-            y: self.y,
+            ..self
         }
     }
 }

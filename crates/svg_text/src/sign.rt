@@ -11,7 +11,8 @@ use bus::Sign;
 use explain_bus::line::letter;
 use text_hex::text::Text;
 
-// A shape of the head by its letter.
+// A shape of the head by its letter. `text` and `place` stay two parameters, here and below: the text is
+// what every part is put into, and the place is the sign's alone.
 fn push_shape(text: &mut Text, letter: u8, place: Place)
     requires { Room 39 text.old }
     ensures { Added text.old (shape_text letter place.x place.y) 39 text.new }
@@ -37,7 +38,8 @@ fn push_bit(text: &mut Text, bit: u32)
     }
 }
 
-// The eight bits of a byte, the highest first.
+// The eight bits of a byte, the highest first. `text` and `b` stay two parameters: a byte is put by its
+// bits, by its digits, and by its letter.
 #[tactic(auto, unfolding(crate::specs::Picture::bits_text))]
 fn push_bits(text: &mut Text, b: u32)
     requires { Room 48 text.old }
@@ -70,7 +72,8 @@ fn push_open(text: &mut Text, letter: u8, place: Place)
 
 fn push_address(text: &mut Text, place: Place, b: u32)
     requires { Room 157 text.old }
-    ensures { Added text.old (byte_text 97 place.x place.y b (hex2 (b / 2) ++ (32 ∷ direction_text b ∷ []))) 157 text.new }
+    ensures { Added text.old
+        (byte_text 97 place.x place.y b (hex2 (b / 2) ++ (32 ∷ direction_text b ∷ []))) 157 text.new }
 {
     push_open(text, b'a', place);
     push_bits(text, b);
@@ -120,7 +123,8 @@ fn push_lanes(text: &mut Text, place: Place)
     }
 }
 
-// A sign, and before the first of a row the names of the lanes.
+// A sign, and before the first of a row the names of the lanes. It stays a function over a text, not a
+// Display: no clause says what a Formatter was given, and the picture is proved byte for byte.
 pub fn push_sign(text: &mut Text, place: Place, sign: Sign)
     requires { Room 196 text.old }
     ensures { Added text.old (lanes_text place.x place.y ++ sign_text place.x place.y sign) 196 text.new }

@@ -6,5 +6,5 @@ use Rattle.regs.specs.Registers.{TAR}
 use mathlib.Core.Path.{◌≡◌}
 use Rattle.bus.proofs.address_in.Given as goal
 
-abbrev pub invariant-loop-k : goal.invariant-loop-k
-invariant-loop-k l = first TAR l.log l.k ≡ first TAR l.log 0
+abbrev pub invariant-loop-words : goal.invariant-loop-words
+invariant-loop-words l = first TAR l.log l.words-index ≡ first TAR l.log 0

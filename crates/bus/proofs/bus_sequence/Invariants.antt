@@ -6,7 +6,7 @@ use mathlib.Core.Path.{◌≡◌}
 use Prim.Native.Nat.{◌<◌}
 use Rattle.bus.proofs.bus_sequence.Given as goal
 
-abbrev pub invariant-loop-k : goal.invariant-loop-k
-invariant-loop-k l = (l.address < 1024)
+abbrev pub invariant-loop-words : goal.invariant-loop-words
+invariant-loop-words l = (l.address < 1024)
     × (l.sequence.places.ghost_name ≡ l.initial.sequence.places.ghost_name)
-    × Putting l.log l.initial.sequence.places.now l.address l.sequence.places.now l.bus l.sequence.at l.k
+    × Putting l.log l.initial.sequence.places.now l.address l.sequence.places.now l.bus l.sequence.at l.words-index
