@@ -1,4 +1,6 @@
 // The eight transfers with a packet error code for programs in C or Rust, and that code by itself.
+// A call stays a function for each exported name, and `kinds` stays a slice of numbers beside `lengths`: the
+// C interface.
 ghost use Rattle.std.specs.Prelude.{◌≡◌, true, []};
 ghost use Rattle.crc8.specs.Crc8.{crc8_from};
 ghost use Rattle.regs.specs.Log.{expected};

@@ -2,6 +2,8 @@
 // (`rt lib` here makes it). Each forwards to the call of the same name;
 // numbers, slices and structs of numbers go through, and an answer is given by
 // its number and detail (docs/MANUAL.md). A slice is a pointer and a length.
+// Here and in the modules below a call stays a function for each exported name, and kinds stay a slice of
+// numbers beside their lengths, as C links and lends them.
 #![tactic(auto)]
 
 pub mod coded_calls; // the transfers with a packet error code

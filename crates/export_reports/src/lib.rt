@@ -11,6 +11,7 @@ use regs::answers::{Answer, Refusal, Reply};
 use regs_causes::Counted;
 use slave::SlaveState;
 
+// `number`, and `entries` and `used` beside the lent log and readings, stay numbers: the C interface.
 // What a call answers, the entries that it left in the log and the readings that it used.
 #[repr(C)]
 #[derive(Clone, Copy)]
@@ -21,6 +22,7 @@ pub struct Report {
     pub used: usize,
 }
 
+// The number stays beside the rate, where Rust has a `Result`: the C interface.
 // The rate that the bus gets from a clock setting: number 0, whole Hz and what the division of
 // the clock leaves. Or the number under which the setting is refused; the other two are then 0.
 #[repr(C)]
@@ -31,6 +33,7 @@ pub struct BusRate {
     pub remainder: u32,
 }
 
+// It stays a type beside `Counted`, of which C sees nothing: 0 and 0 here is `None` there.
 // The causes of an abort: how many of bits 0 to 16 are set in its raw word,
 // and the lowest of them. Both are 0 where none is set.
 #[repr(C)]
@@ -40,6 +43,7 @@ pub struct AbortCauses {
     pub lowest: u8,
 }
 
+// The flag stays beside the byte, where Rust has an `Option`: the C interface.
 // The slave's state: what lasts from call to call. The byte counts
 // only where one is kept, and is given as 0 where none is.
 #[repr(C)]
@@ -59,6 +63,8 @@ pub struct SlaveReport {
     pub report: Report,
 }
 
+// In this `From` and those below the fields stay named one by one: `..` takes them from a value of the same
+// type, and these are others.
 impl From<Ran> for Report {
     ghost use Rattle.export_reports.specs.Report.{report_of};
 

@@ -10,6 +10,9 @@ use regs::access::Ran;
 use transfer::Mode;
 use transfer::operations::Operations;
 
+// The calls stay one for each name of the Rust, and `kinds` stays beside `lengths` in them: callers in C
+// lend the two so.
+
 // A call without a packet error code.
 fn plain(mode: Mode, address: u16) -> Way
     ensures { result ≡ record { mode = mode; address = address; coded = false } }

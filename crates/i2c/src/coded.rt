@@ -11,6 +11,9 @@ use regs::access::Ran;
 use transfer::Mode;
 use transfer::operations::Operations;
 
+// The calls stay one for each name, as the plain ones, and `kinds` stays beside `lengths`: callers in C lend
+// the two so.
+
 // A call with a packet error code.
 fn with_code(mode: Mode, address: u16) -> Way
     ensures { result ≡ record { mode = mode; address = address; coded = true } }

@@ -19,7 +19,8 @@ use transfer_code::code::Message;
 use transfer_code::settle::settle;
 use transfer_run::drive;
 
-// How a transfer is called: to which address, whether by polls, and whether it has a packet error code.
+// How a transfer is called: to which address, whether by polls, and whether it has a packet error code. It
+// stays a type beside the form of the replay, which has no address and says which of the calls is meant.
 #[derive(Clone, Copy)]
 pub struct Way {
     pub mode: Mode,
@@ -73,7 +74,8 @@ impl Way {
         }
     }
 
-    // Reads into the buffer.
+    // Reads into the buffer. It stays apart from `write`: a buffer that is filled and one that is sent are lent
+    // in two ways, and the two promise something of other buffers.
     pub fn read(self, read: &mut [u8], readings: &[u32], log: &mut [u32]) -> Ran
         ensures { LeavesBuffer
             (expected (program_by self.coded (mode_of self.mode) self.address (reads_into read.old))

@@ -130,6 +130,7 @@ pub enum Point {
 // Where a reading leads: to a point, to the next operation, or to the end of the transfer by a refusal.
 pub type Step = Result<Option<Point>, Refusal>;
 
+// `at` stays a number, not a part of a lent slice: a transfer outlives each loan of its buffers.
 // The operation under way: where it starts in its buffer, its length, whether a read's first word
 // carries RESTART, and whether STOP rides on its last word.
 #[derive(Clone, Copy)]
@@ -140,6 +141,7 @@ pub struct Operation {
     pub send_stop: bool,
 }
 
+// `reads` and `writes` stay numbers too: the buffers are lent anew at each step.
 // A transfer: its point, the operation under way, the number of operations
 // begun, and where the next read and the next write start.
 #[derive(Clone, Copy)]

@@ -1,4 +1,4 @@
-// What a transfer is to do: the operations that its caller lists, and whether a packet error code follows them.
+// What a transfer is to do: the operations that its caller lists, and whether a packet error code follows.
 ghost use Rattle.std.specs.Prelude.{◌≡◌, length};
 
 // The direction of an operation.
@@ -24,7 +24,7 @@ impl From<u8> for Direction {
     }
 }
 
-// And back. 0 is the number of a read, and does not stand for nothing.
+// And back. 0 stays: it is the number of a read, and does not stand for nothing.
 impl From<Direction> for u8 {
     ghost use Rattle.transfer.specs.Inner.Operations.{number};
 

@@ -14,14 +14,15 @@ use transfer::{
     WritePoint,
 };
 
-// Past the end of the buffer, 0 is sent.
+// Past the end of the buffer, 0 is sent: it stays a byte, since a word goes out there as anywhere. The
+// place stays beside the bytes: a write's operation starts at `at`, of all bytes that are lent.
 fn byte_of(bytes: &[u8], at: usize, i: u16) -> u8
     ensures { result ≡ byte_at bytes.now at i }
 {
-    match bytes.get(at.saturating_add(i as usize)) {
-        Some(&byte) => byte,
-        None => 0,
-    }
+    bytes
+        .get(at.saturating_add(i as usize))
+        .copied()
+        .unwrap_or(0)
 }
 
 // A blocking read's word for byte i.

@@ -2,7 +2,7 @@
 #![tactic(auto)]
 
 ghost use Rattle.std.specs.Prelude.{◌≡◌, false};
-ghost use Rattle.transfer.specs.Inner.Machine.{queued, next_turn, fetching, filling, after_index, returned};
+ghost use Rattle.transfer.specs.Inner.Machine.{queued, next_turn, fetching, filling, returned};
 ghost use Rattle.transfer.specs.Inner.Machine.{step_round, step_fill};
 
 use regs::fields::level_of;
@@ -11,13 +11,6 @@ use transfer::{
     AbortPoint, Caller, FillPoint, Operation, Point, Round, RoundPoint, Step, WaitPoint,
 };
 use transfer_after_waits::wait_for_stop;
-
-#[tactic(auto, unfolding(transfer::specs::Inner::Machine::after_index))]
-fn one_more(len: u16, i: u16) -> u16
-    ensures { result ≡ after_index len i }
-{
-    if i < len { i + 1 } else { i }
-}
 
 // An async read: so many words are to be queued in this round.
 #[tactic(auto, unfolding(transfer::specs::Inner::Machine::queued))]
@@ -43,7 +36,8 @@ fn turn(send_stop: bool, round: Round) -> Option<Point>
     }
 }
 
-// So many bytes are to be fetched.
+// So many bytes are to be fetched. `send_stop` stays beside the round: it is the operation's, and only handed
+// on to the wait for STOP.
 #[tactic(auto, unfolding(transfer::specs::Inner::Machine::fetching))]
 fn fetch(send_stop: bool, round: Round, left: u16) -> Option<Point>
     ensures { fetching send_stop round left ≡ Ok result }
@@ -119,6 +113,8 @@ pub fn after_round(send_stop: bool, p: RoundPoint, v: u32) -> Step
     }
 }
 
+// A write's look at the places stays apart from a read's (`after_room`): both test for none, but each leads
+// to points of its own, and one function of both would be given all four.
 #[tactic(auto, unfolding(transfer::specs::Inner::Machine::step_fill, transfer::specs::Inner::Machine::full_step))]
 fn after_full(i: u16, v: u32) -> Step
     ensures { result ≡ step_fill 0 false (FillPoint.Full i) v }
@@ -130,14 +126,14 @@ fn after_full(i: u16, v: u32) -> Step
     }
 }
 
-#[tactic(auto, unfolding(transfer::specs::Inner::Machine::step_fill, transfer::specs::Inner::Machine::free_step))]
+#[tactic(auto, unfolding(transfer::specs::Inner::Machine::step_fill, transfer::specs::Inner::Machine::free_step, transfer::specs::Inner::Machine::after_index))]
 pub fn after_fill(operation: Operation, p: FillPoint, v: u32) -> Step
     ensures { result ≡ step_fill operation.len operation.send_stop p v }
 {
     match p {
         FillPoint::Free(i) => Ok(fill(operation, i, capacity_of(v)?)),
         FillPoint::Fill(i, space) => {
-            let next = one_more(operation.len, i);
+            let next = if i < operation.len { i + 1 } else { i };
             Ok(fill(operation, next, space.saturating_sub(1)))
         }
         FillPoint::Full(i) => after_full(i, v),

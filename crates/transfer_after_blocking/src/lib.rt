@@ -25,7 +25,8 @@ fn next_byte(len: u16, i: u16) -> Option<u16>
     if next < len { Some(next) } else { None }
 }
 
-// A byte that was written without an abort.
+// A byte that was written without an abort. It stays apart from `byte_taken`: a write waits for STOP at its
+// last byte, and a read does not.
 #[tactic(auto, unfolding(transfer::specs::Inner::Machine::returned))]
 pub fn byte_written(operation: Operation, i: u16) -> Option<Point>
     ensures { returned operation.len operation.send_stop (Caller.Write i) (Ok tt) ≡ Ok result }
@@ -45,6 +46,7 @@ fn byte_taken(len: u16, i: u16) -> Option<Point>
     Some(Point::ReadBlocking(ReadPoint::Room(next)))
 }
 
+// A read's look at the places stays apart from a write's (`after_full`), which leads to other points.
 #[tactic(auto, unfolding(transfer::specs::Inner::Machine::step_read, transfer::specs::Inner::Machine::room_step))]
 fn after_room(i: u16, v: u32) -> Step
     ensures { result ≡ step_read 0 (ReadPoint.Room i) v }

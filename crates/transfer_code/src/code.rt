@@ -33,7 +33,7 @@ impl Message<'_> {
     }
 }
 
-// How far the code is computed: the register, the bytes of each buffer that are in it, and the direction before.
+// How far the code is computed: the register, the bytes of each buffer in it, and the direction before.
 #[derive(Clone, Copy)]
 pub struct Coding {
     pub crc: u8,

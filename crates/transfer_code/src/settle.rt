@@ -23,7 +23,8 @@ pub enum DataAt {
     Put(usize),
 }
 
-// Searches the entries of a log from the last one back.
+// Searches the entries of a log from the last one back. `entries` stays beside the log: what is lent is all
+// the caller's room, and the run's own entries are its front.
 fn last_data(log: &[u32], entries: usize) -> Option<DataAt>
     requires { entries * 2 ≤ length log.now }
     ensures last { result ≡ last_at log.now entries }
@@ -75,7 +76,8 @@ fn closes(w: u32) -> bool
     has_stop(w) && !is_read(w)
 }
 
-// Puts the code into entry k of a log, where that writes the last word of a write.
+// Puts the code into entry k of a log, where that writes the last word of a write. The place stays beside the
+// log, since what is promised is of the whole log: nothing else in it changes.
 fn put(message: &Message, log: &mut [u32], k: usize)
     requires { k * 2 + 1 < length log.old }
     ensures { log.new ≡ with_code_at (code_of_message message.now) log.old k }

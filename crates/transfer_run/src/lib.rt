@@ -29,7 +29,8 @@ fn step(
     Ok(transfer_steps::advance(s, v, plan))
 }
 
-// The steps from a transfer to its end.
+// The steps from a transfer to its end. The `loop` stays: a step's reply ends it, and it counts nothing. The
+// log stays a slice with no place: this is where the recording begins.
 pub fn drive(
     from: Transfer,
     plan: &Plan,

@@ -1,7 +1,7 @@
 -- Words into which a transfer was put stand for it.
 use Prim.Native.Nat.{ℕ, ◌<◌, ◌%◌, ◌^◌}
 use native.Mathlib.Nat.{mod-eq_of_lt}
-use mathlib.Core.Path.{◌≡◌, refl, sym, ◌∙◌, ap}
+use mathlib.Core.Path.{◌≡◌, refl, sym, ap}
 use mathlib.Core.Bool.{Bool, true, false}
 use mathlib.Core.List.{List}
 use mathlib.Core.Logic.{⊎_elim}
@@ -62,11 +62,11 @@ restart_kept Blocking true = refl
 restart_kept Async false = refl
 restart_kept Async true = refl
 
-pub half_kept : {r n : ℕ} → (r ≡ n) × (r < 2 ^ 16) → half_of r ≡ n
-half_kept e = mod-eq_of_lt e.1 ∙ e.0
+pub half_kept : {r n : ℕ} → r ≡ n → n < 2 ^ 16 → half_of r ≡ n
+half_kept e h = rw e (mod-eq_of_lt h)
 
-pub full_kept : {r n : ℕ} → (r ≡ n) × (r < 2 ^ 32) → full_of r ≡ n
-full_kept e = mod-eq_of_lt e.1 ∙ e.0
+pub full_kept : {r n : ℕ} → r ≡ n → n < 2 ^ 32 → full_of r ≡ n
+full_kept e h = rw e (mod-eq_of_lt h)
 
 -- words into which a transfer was put
 pub record Written (t : Transfer) (s : List ℕ) : Type 0 where

@@ -4,7 +4,8 @@
 
 ghost use Rattle.std.specs.Prelude.{◌≡◌, not, ◌<◌, ◌%◌, ◌^◌, eqb, ltb, length, get_or};
 ghost use Rattle.words_points.specs.Held.{held_of};
-ghost use Rattle.words.specs.Inner.Words.{mode_at, form_of, who_in, place_in, operation_in, transfer_in, held_at};
+ghost use Rattle.words.specs.Inner.Words.{mode_at, form_of, who_in, place_in, operation_in};
+ghost use Rattle.words.specs.Inner.Words.{transfer_in, held_at};
 
 use transfer::{Mode, Operation, Point, Transfer};
 use words_points::{Failure, Place, Who};
@@ -66,33 +67,14 @@ pub fn sized(words: &[u64; 20])
     let _n = length_of(words);
 }
 
-fn wide16(n: u16) -> u64
-    ensures { (result ≡ n)
-        × (result < 2 ^ 16) }
-{
-    n as u64
-}
-
-fn wide32(n: u32) -> u64
-    ensures { (result ≡ n)
-        × (result < 2 ^ 32) }
-{
-    n as u64
-}
-
-fn long(n: usize) -> u64
-    ensures { result ≡ n }
-{
-    n as u64
-}
-
 fn bit(b: bool) -> u64
     ensures { not (eqb result 0) ≡ b }
 {
     if b { 1 } else { 0 }
 }
 
-// 8 bits of a word, 16 bits, 32 bits, a flag, and a place in a buffer.
+// 8 bits of a word, 16 bits, 32 bits, and a flag. The first three stay apart: each has its own width in its
+// contract, and a cast from a word is not generic.
 pub fn byte(w: u64) -> u8
     ensures { result ≡ w % 2 ^ 8 }
 {
@@ -117,13 +99,8 @@ pub fn flag(w: u64) -> bool
     w != 0
 }
 
-pub fn at_of(w: u64) -> usize
-    ensures { result ≡ w }
-{
-    w as usize
-}
-
-// The mode that `queued` tells.
+// The mode that `queued` tells. It stays a function, as those below: neither a truth value nor `Mode` is a
+// type of this crate, so From could not stand here.
 #[tactic(auto, unfolding(crate::specs::Inner::Words::mode_at))]
 pub fn mode(queued: bool) -> Mode
     ensures { result ≡ mode_at queued }
@@ -148,6 +125,8 @@ pub fn ended(words: &[u64; 20]) -> bool
     7 < words[GROUP]
 }
 
+// What the words say. These three stay functions: the words are the caller's array, and what they stand for
+// is of other crates, so From could not stand here.
 #[tactic(auto, unfolding(crate::specs::Inner::Words::who_in))]
 pub fn who_from(words: &[u64; 20]) -> Who
     ensures { result ≡ who_in words.now }
@@ -187,7 +166,7 @@ pub fn operation_from(words: &[u64; 20]) -> Operation
     ensures { result ≡ operation_in words.now }
 {
     Operation {
-        at: at_of(words[AT]),
+        at: words[AT] as usize,
         len: half(words[LEN]),
         restart: 1 < words[FORM],
         send_stop: flag(words[SEND_STOP]),
@@ -204,9 +183,9 @@ pub fn transfer_from(words: &[u64; 20]) -> Transfer
         mode: mode(words[FORM] % 2 == 1),
         address: half(words[ADDRESS]),
         operation: operation_from(words),
-        begun: at_of(words[BEGUN]),
-        reads: at_of(words[READS]),
-        writes: at_of(words[WRITES]),
+        begun: words[BEGUN] as usize,
+        reads: words[READS] as usize,
+        writes: words[WRITES] as usize,
     }
 }
 
@@ -221,22 +200,22 @@ pub fn put(words: &mut [u64; 20], t: Transfer)
     let failure = who.failure;
     words[GROUP] = place.group;
     words[ROW] = place.row;
-    words[WORD] = wide32(place.word);
+    words[WORD] = u64::from(place.word);
     words[KIND] = who.kind;
-    words[INDEX] = wide16(who.index);
-    words[COUNT] = wide16(who.count);
-    words[REMAINING] = wide16(who.remaining);
-    words[QUEUE] = wide16(who.queue);
-    words[BATCH] = wide16(who.batch);
+    words[INDEX] = u64::from(who.index);
+    words[COUNT] = u64::from(who.count);
+    words[REMAINING] = u64::from(who.remaining);
+    words[QUEUE] = u64::from(who.queue);
+    words[BATCH] = u64::from(who.batch);
     words[FAILURE] = failure.kind;
-    words[FAILURE_COUNT] = wide16(failure.count);
-    words[FAILURE_WORD] = wide32(failure.word);
+    words[FAILURE_COUNT] = u64::from(failure.count);
+    words[FAILURE_WORD] = u64::from(failure.word);
     words[FORM] = form(t.mode, operation.restart);
     words[SEND_STOP] = bit(operation.send_stop);
-    words[ADDRESS] = wide16(t.address);
-    words[LEN] = wide16(operation.len);
-    words[AT] = long(operation.at);
-    words[BEGUN] = long(t.begun);
-    words[READS] = long(t.reads);
-    words[WRITES] = long(t.writes);
+    words[ADDRESS] = u64::from(t.address);
+    words[LEN] = u64::from(operation.len);
+    words[AT] = operation.at as u64;
+    words[BEGUN] = t.begun as u64;
+    words[READS] = t.reads as u64;
+    words[WRITES] = t.writes as u64;
 }

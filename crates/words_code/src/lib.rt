@@ -15,8 +15,8 @@ use regs::fields::{byte_of, has_stop, is_read, word_of};
 use transfer::operations::Direction;
 
 // The register before the bytes of an operation, with the kind of the operation and of the one
-// before by number: the address byte is taken in first where they differ. Any number is a kind, as
-// it is to a caller in C.
+// before: the address byte is taken in first where they differ. `kind` and `last` stay numbers in
+// this file: C holds and is told them so, and any number is a kind.
 pub fn opening(crc: u8, address: u16, last: u8, kind: u8) -> u8
     ensures { result ≡ crc8_from crc (opened address last kind) }
 {

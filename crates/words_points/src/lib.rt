@@ -1,5 +1,6 @@
 // A transfer's point as numbers: each point has a row of them.
-// The end keeps the number and the detail of the answer.
+// The end keeps the number and the detail of the answer. `kind`, `group` and `row` stay numbers in this crate:
+// they are words of the caller's, any number may stand in them, and each is answered and kept.
 #![tactic(auto)]
 
 pub mod points; // numbers as points

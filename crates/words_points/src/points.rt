@@ -40,6 +40,7 @@ impl From<Failure> for Tried {
     }
 }
 
+// The fields stay named one by one, as `..` takes them from a value of the same type.
 impl From<Who> for Round {
     ghost from_gives = { λ w r. r ≡ round_at w };
 
@@ -81,6 +82,8 @@ impl From<Who> for Poll {
     }
 }
 
+// `row` stays a number: it is a word of the caller's, and any number is answered. The functions by row stay
+// functions: a number and a point are of other crates, so From could not stand here; most take more beside.
 #[tactic(auto, unfolding(crate::specs::Inner::Numbers::setup_at))]
 pub fn setup_of(row: u64) -> SetupPoint
     ensures { result ≡ setup_at row }

@@ -74,6 +74,8 @@ impl From<Tried> for Failure {
 }
 
 impl Who {
+    // `kind` stays a number, here and below: it goes into a word of the caller's as it is. The counts of a round
+    // stay named one by one, as `..` takes fields from a value of the same type.
     #[tactic(auto, unfolding(crate::specs::Inner::Numbers::indexed, crate::specs::Inner::Numbers::failure))]
     fn at_byte(kind: u64, index: u16, count: u16) -> Self
         ensures { result ≡ indexed kind index count }
@@ -140,6 +142,7 @@ impl From<Poll> for Who {
     }
 }
 
+// `group` and `row` stay numbers: this is where they are put beside each other for the words.
 #[tactic(auto, unfolding(crate::specs::Inner::Numbers::place_row))]
 fn at(group: u64, row: u64, word: u32, who: Who) -> Place
     ensures { result ≡ place_row group row word who }
@@ -152,6 +155,7 @@ fn at(group: u64, row: u64, word: u32, who: Who) -> Place
     }
 }
 
+// The impls below look alike and stay apart: each has the points of another Rust function, and its own rows.
 impl From<SetupPoint> for Place {
     ghost from_gives = { λ p r. r ≡ setup_row p };
 
@@ -165,6 +169,7 @@ impl From<SetupPoint> for Place {
     }
 }
 
+// It stays a function, not a From: the caller of the look for an abort comes beside it.
 #[tactic(auto, unfolding(crate::specs::Inner::Numbers::abort_row))]
 fn of_abort(p: AbortPoint, caller: Caller) -> Place
     ensures { result ≡ abort_row caller p }

@@ -1,6 +1,8 @@
 // The frequent steps of a transfer, made on its words: nothing is decoded, and
 // only words that change are stored. What is not frequent is left as it is.
-// Group, row and kind are read and stored as numbers, since programs in C keep the words.
+// Group, row and kind stay numbers, read and stored, since programs in C keep the words. The fact of the
+// group that a word holds stays a `requires` of each module's steps: it is another number in each. `words`
+// and `v` stay two parameters: the words are lent and changed, and v is one reading.
 #![tactic(auto)]
 
 mod aborts; // behind fn read_and_clear_abort_reason
@@ -52,7 +54,7 @@ impl Reached {
         }
     }
 
-    // The point's row in its group.
+    // The point's row in its group. 0 stays: it is the number of the first row, and does not stand for nothing.
     pub fn row(self) -> u64
         ensures { result ≡ row_at self }
     {
