@@ -66,3 +66,12 @@ signs bus address (w ∷ words) = signs_of bus address w ++ signs (after w) addr
 -- the address is what the log writes to TAR, the words those that it writes to DATA_CMD
 abbrev pub bus_sequence : List Entry → List Sign
 bus_sequence log = signs Idle (address_field (get_or (written_to TAR log) 0 0)) (written_to DATA_CMD log)
+
+-- a sign as one word: its kind times 65,536, and its value
+abbrev pub sign_word : Sign → ℕ
+sign_word Start = 0x10000
+sign_word Restart = 0x20000
+sign_word Stop = 0x30000
+sign_word (Address b) = 0x40000 + b
+sign_word (Written b) = 0x50000 + b
+sign_word ReadSlot = 0x60000

@@ -26,6 +26,24 @@ pub enum Sign {
     ReadSlot,
 }
 
+// A sign as one word: its kind in the upper half, and the byte of those that have one.
+impl From<Sign> for u32 {
+    ghost use Rattle.bus.specs.Bus.{sign_word};
+
+    ghost from_gives = { λ sign word. word ≡ sign_word sign };
+
+    fn from(sign: Sign) -> u32 {
+        match sign {
+            Sign::Start => 0x10000,
+            Sign::Restart => 0x20000,
+            Sign::Stop => 0x30000,
+            Sign::Address(byte) => 0x40000 + u32::from(byte),
+            Sign::Written(byte) => 0x50000 + u32::from(byte),
+            Sign::ReadSlot => 0x60000,
+        }
+    }
+}
+
 // The direction of a byte on the bus.
 #[derive(Clone, Copy, PartialEq, Eq)]
 pub enum Direction {
