@@ -2,7 +2,7 @@
 use Prim.Native.Nat.{ℕ, ◌+◌, ◌/◌, ◌-◌, ◌<◌, ◌≤◌, ◌^◌}
 use native.Mathlib.Nat.{eq-zero-or-pos}
 use native.Mathlib.Omega.{arith}
-use mathlib.Core.Bool.{Bool, true, false}
+use mathlib.Core.Bool.{Bool}
 use mathlib.Core.List.{List}
 use mathlib.Core.Logic.{⊎_elim}
 use mathlib.Core.Path.{◌≡◌, refl, ◌∙◌}
@@ -74,13 +74,7 @@ has_room {i = i} {len} {space} s j in_places in_bytes =
     (λ (p : 0 < i + space - len). omega (arith, s.last (omega (arith, p))))
     (eq-zero-or-pos (i + space - len))
 
--- a place of a round has a byte: one that is not the last has one for each place, and in the last one the test for the end fails
-pub more_bytes : (last : Bool) (i n len space : ℕ) → (last ≡ false → i + space < len) → n < space → i + n ≤ len
-    → (last ≡ true → i + n ≡ len → ⊥) → i + n < len
-more_bytes true i n len space ahead more within going = omega (arith, within, going refl)
-more_bytes false i n len space ahead more within going = omega (arith, more, ahead refl)
-
--- and the log has room for its word
+-- the log has room for the word of a place that has a byte
 pub place_room : {r r₁ : Recording} {i len space v n : ℕ} → StraightFill r i len space → Reads r TXFLR v r₁ → n < space → i + n < len
     → r₁.entries + n < length r₁.log.now / 2
 place_room {n = n} s e more before =

@@ -4,7 +4,7 @@
 // and TXFLR has room again.
 #![tactic(auto)]
 
-ghost use Rattle.std.specs.Prelude.{true, false, Option, IfSome, ◌≡◌, ◌+◌, ◌<◌, ◌≤◌, length};
+ghost use Rattle.std.specs.Prelude.{true, Option, IfSome, ◌≡◌, ◌+◌, ◌<◌, ◌≤◌};
 ghost use Rattle.regs.specs.Inner.Recording.{Enters, room_of};
 ghost use Rattle.regs.specs.Registers.{DATA_CMD};
 ghost use Rattle.transfer.specs.Inner.Machine.{byte_at, fill_word, go};
@@ -17,7 +17,7 @@ use regs_runs::{has, read};
 use transfer::{FillPoint, Point, Transfer};
 use transfer_access::words::word_of_fill;
 use transfer_after_waits::wait_for_stop;
-use transfer_fast_blocking::{free, is_within};
+use transfer_fast_blocking::free;
 
 // Whether a round that fills all its places is followed by another: the first
 // poll finds no abort and room in the FIFO, and readings and log are long enough.
@@ -51,69 +51,23 @@ fn planned(i: u16, len: u16, recording: &Recording) -> Option<u16>
     (0 < space && leads_on).then_some(space)
 }
 
-// The byte of a place. The last one of a coded transfer is past the
-// lent slice, and 0 is sent for it; only a last round can come there.
-fn byte_at(last: bool, bytes: &[u8], at: usize, i: u16) -> u8
-    requires { (at + i ≤ length bytes.now)
-        × (last ≡ false → at + i < length bytes.now) }
-    ensures { result ≡ byte_at bytes.now at i }
-{
-    // `get(k).unwrap_or(0)` would test every byte; this tests those of a last round alone.
-    let k = at + usize::from(i);
-    if last & (k == bytes.len()) {
-        0
-    } else {
-        bytes[k]
-    }
-}
-
-// Whether the bytes end in a round. The loop over the places of another
-// round is compiled without the tests for their end and for the last byte.
-fn is_last(i: u16, len: u16, space: u16) -> bool
-    requires { i ≤ len }
-    ensures ends { result ≡ true → len ≤ i + space }
-    ensures goes_on { result ≡ false → i + space < len }
-{
-    len - i <= space
-}
-
-// Whether no byte is left. Only a last round can find that.
-fn has_ended(last: bool, i: u16, len: u16) -> bool
-    ensures ended { result ≡ true → i ≡ len }
-    ensures goes_on { result ≡ false → last ≡ true → i ≡ len → ⊥ }
-{
-    if last {
-        if i == len {
-            return true;
-        }
-    }
-    false
-}
-
-// Fills a place with byte i.
-fn fill(t: Transfer, i: u16, last: bool, bytes: &[u8], recording: &mut Recording)
-    requires { (i < t.operation.len)
-        × (last ≡ false → i + 1 < t.operation.len)
-        × (t.operation.at + t.operation.len ≤ length bytes.now + 1)
-        × (recording.old.entries < room_of recording.old) }
+// Fills a place with byte i. The last one of a coded transfer is past the lent slice: 0 is sent for it.
+fn fill(t: Transfer, i: u16, bytes: &[u8], recording: &mut Recording)
+    requires { recording.old.entries < room_of recording.old }
     ensures { Enters recording.old (0x200 + DATA_CMD)
         (fill_word (byte_at bytes.now t.operation.at i) i t.operation.len t.operation.send_stop)
         recording.new }
 {
-    let w = word_of_fill(
-        byte_at(last, bytes, t.operation.at, i),
-        i,
-        t.operation.len,
-        t.operation.send_stop & last,
-    );
+    let at = t.operation.at.saturating_add(usize::from(i));
+    let byte = bytes.get(at).copied().unwrap_or(0);
+    let w = word_of_fill(byte, i, t.operation.len, t.operation.send_stop);
     recording.put_write(regs::DATA_CMD, w);
 }
 
 // Round after round, until the bytes end or a round does not lead straight on. A place
 // without a byte leaves both loops: the operation waits for its STOP, or is done.
 fn run(t: Transfer, from: u16, bytes: &[u8], recording: &mut Recording) -> Option<Point>
-    requires { (from ≤ t.operation.len)
-        × (t.operation.at + t.operation.len ≤ length bytes.now + 1) }
+    requires { from ≤ t.operation.len }
     ensures { Leads t bytes.now recording.old (go (WriteAsync (Free from))) recording.new (Ok result) }
 {
     let len = t.operation.len;
@@ -123,12 +77,11 @@ fn run(t: Transfer, from: u16, bytes: &[u8], recording: &mut Recording) -> Optio
             return Some(Point::WriteAsync(FillPoint::Free(i)));
         };
         let _free = read(recording, regs::TXFLR);
-        let last = is_last(i, len, space);
         for n in 0..space {
-            if has_ended(last, i + n, len) {
+            if i + n == len {
                 break 'xmit;
             }
-            fill(t, i + n, last, bytes, recording);
+            fill(t, i + n, bytes, recording);
         }
         let _source = read(recording, regs::TX_ABRT_SOURCE);
         let _again = read(recording, regs::TXFLR);
@@ -137,12 +90,11 @@ fn run(t: Transfer, from: u16, bytes: &[u8], recording: &mut Recording) -> Optio
     wait_for_stop(t.operation.send_stop, Ok(()))
 }
 
-// The rounds from a byte on, or from past the last one, where the bytes are within the buffer,
-// and where they lead.
+// The rounds from a byte on, or from past the last one, and where they lead.
 pub fn burst(t: Transfer, from: u16, bytes: &[u8], recording: &mut Recording) -> Option<Point>
     ensures { Leads t bytes.now recording.old (go (WriteAsync (Free from))) recording.new (Ok result) }
 {
-    if from <= t.operation.len && is_within(0, t.operation.len, t.operation.at, bytes.len()) {
+    if from <= t.operation.len {
         run(t, from, bytes, recording)
     } else {
         Some(Point::WriteAsync(FillPoint::Free(from)))

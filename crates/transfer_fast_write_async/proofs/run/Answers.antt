@@ -1,18 +1,16 @@
--- `run`: in the inner loop a place more is filled (`one_filled` of proofs/Filling.antt), since each place of a round that
--- is not the last has a byte, and the test for the end tells of the others (`more_bytes`). At the break no byte is left
--- and a place is, which ends the operation (`last_round` of proofs/Fills.antt); where all places are filled, the poll
--- that `planned` looked at leads to the next round (`one_round`). `lead_after` adds a round to those before it.
+-- `run`: in the inner loop a place more is filled (`one_filled` of proofs/Filling.antt), since the test for the end tells
+-- that it has a byte. At the break no byte is left and a place is, which ends the operation (`last_round` of
+-- proofs/Fills.antt); where all places are filled, the poll that `planned` looked at leads to the next round
+-- (`one_round`). `lead_after` adds a round to those before it.
 use Rattle.std.proofs.Common.{arith, refl, ◌≡◌, ◌<◌, ◌+◌}
 use Rattle.transfer_fast_write_async.proofs.Filling.{one_filled, lead_after}
-use Rattle.transfer_fast_write_async.proofs.Fills.{more_bytes, place_room, one_round, last_round}
+use Rattle.transfer_fast_write_async.proofs.Fills.{place_room, one_round, last_round}
 use Rattle.transfer_fast_write_async.proofs.run.Goals as goal
 
 pub loop-n-preserved : goal.loop-n-preserved
 loop-n-preserved c =
     let g = c.loop-n.invariant in
-    let before : c.xmit.i + c.loop-n.n < c.args.t.operation.len =
-    more_bytes c.is_last-last.result c.xmit.i c.loop-n.n c.args.t.operation.len c.in-Some.space c.is_last-last.ensures.goes_on c.loop-n-test.true g.within
-    (c.has_ended.ensures.goes_on c.if-has_ended.false) in
+    let before : c.xmit.i + c.loop-n.n < c.args.t.operation.len = omega (arith, g.within, c.if-i-n.false) in
     record {
       filled = one_filled g.filled before (place_room c.in-Some.ensures c.read-free.ensures c.loop-n-test.true before)
           (omega arith) refl c.fill.ensures;
@@ -35,4 +33,4 @@ returns c =
     let g = c.xmit.invariant in
     lead_after g.came (last_round c.in-Some.ensures (omega arith) c.read-free.ensures g.within
     (omega (arith, c.loop-n-test.true)) c.loop-n.invariant.filled c.loop-n-test.true
-    (c.has_ended.ensures.ended c.if-has_ended.true) c.wait_for_stop.ensures)
+    c.if-i-n.true c.wait_for_stop.ensures)
