@@ -74,7 +74,9 @@ impl Job {
         ensures { result ≡ byte_at self bytes.now i }
     {
         match self {
-            Job::Respond | Job::RespondThenFill(_) => byte_of(bytes, i),
+            Job::Respond | Job::RespondThenFill(_) => {
+                u32::from(bytes.get(usize::from(i)).copied().unwrap_or(0))
+            }
             Job::Fill(fill) | Job::FillAfter(fill) => u32::from(fill),
         }
     }
@@ -126,13 +128,6 @@ impl Job {
         };
         Response { job: self, point }
     }
-}
-
-// The byte at an index, 0 past the end, as a word for DATA_CMD.
-fn byte_of(bytes: &[u8], i: u16) -> u32
-    ensures { result ≡ get_or bytes.now i 0 }
-{
-    u32::from(bytes.get(usize::from(i)).copied().unwrap_or(0))
 }
 
 // Where the chunk that starts at `at` ends.

@@ -16,7 +16,7 @@ use transfer::{
 
 // Past the end of the buffer, 0 is sent: it stays a byte, since a word goes out there as anywhere. The
 // place stays beside the bytes: a write's operation starts at `at`, of all bytes that are lent.
-fn byte_of(bytes: &[u8], at: usize, i: u16) -> u8
+pub fn byte_of(bytes: &[u8], at: usize, i: u16) -> u8
     ensures { result ≡ byte_at bytes.now at i }
 {
     bytes

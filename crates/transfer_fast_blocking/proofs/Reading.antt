@@ -1,5 +1,5 @@
 -- A blocking read, byte after byte.
-use Prim.Native.Nat.{ℕ, ◌+◌, ◌/◌, ◌-◌, ◌%◌, ◌<◌, ◌≤◌, ◌^◌}
+use Prim.Native.Nat.{ℕ, ◌+◌, ◌/◌, ◌-◌, ◌<◌, ◌≤◌}
 use native.Mathlib.Omega.{arith}
 use mathlib.Core.Bool.{Bool, true, false, ◌&&◌, and-false}
 use mathlib.Core.List.{List}
@@ -12,7 +12,7 @@ use Rattle.regs.specs.Fields.{level, dat, command_word}
 use Rattle.regs.specs.Inner.Machine.{entered}
 use Rattle.transfer.specs.Inner.Points.{with_point}
 use Rattle.transfer.specs.Inner.Machine.{machine, next_at, next_read, read_word, store_at, store_read, step_of}
-use Rattle.transfer.specs.Inner.Machine.{step_read, room_step, level_step, places}
+use Rattle.transfer.specs.Inner.Machine.{step_read, room_step, level_step, places, sum_of}
 use Rattle.transfer.specs.declared.Transfer.{Transfer}
 use Rattle.transfer.specs.declared.Point.TheVariants.{ReadBlocking}
 use Rattle.transfer.specs.declared.ReadPoint.TheVariants.{Room, Ask, Level, Take}
@@ -27,15 +27,14 @@ module _ (coded : Bool) (kinds lengths bytes : List ℕ) {readings : List ℕ} (
       → level (get_or readings u 0) < 16
       → (level (get_or readings (u + 1) 0) ≡ 0 → ⊥)
       → i + 1 < t.operation.len
-      → t.operation.at + i < 2 ^ 64
       → Reaches (machine coded kinds lengths bytes) readings s₀ e₀ u₀ l₀ b₀ (with_point t (ReadBlocking (Room (i + 1)))) (e + 4) (u + 3)
       (entered (entered (entered (entered l e (0x100 + TXFLR) (get_or readings u 0)) (e + 1) (0x200 + DATA_CMD)
       (command_word 0 true false (t.operation.restart && eqb i 0)))
       (e + 2) (0x100 + RXFLR) (get_or readings (u + 1) 0))
       (e + 3) (0x100 + DATA_CMD) (get_or readings (u + 2) 0))
-      (set b (t.operation.at + i) (dat (get_or readings (u + 2) 0)))
+      (set b (sum_of t.operation.at i) (dat (get_or readings (u + 2) 0)))
   unfolding next_at next_read read_word store_at store_read step_of step_read room_step level_step places
-  byte_read g room left free filled more place =
+  byte_read g room left free filled more =
       let n = level (get_or readings u 0) in
       let M = machine coded kinds lengths bytes in
       let a : M.advance (with_point t (ReadBlocking (Room i))) (get_or readings u 0) ≡ with_point t (ReadBlocking (Ask i)) =
@@ -54,5 +53,4 @@ module _ (coded : Bool) (kinds lengths bytes : List ℕ) {readings : List ℕ} (
       let q₄ : e + 4 ≡ e + 3 + 1 = omega arith in
       let a₄ : M.advance (with_point t (ReadBlocking (Take i))) (get_or readings (u + 2) 0) ≡ with_point t (ReadBlocking (Room (i + 1))) =
       rw (lt-ltb i t.operation.len (omega (arith, more)), lt-ltb (i + 1) t.operation.len more) in
-      let w : (t.operation.at + i) % 2 ^ 64 ≡ t.operation.at + i = omega (arith, place) in
-      rw w at (did_read g₃ refl (omega (arith, room)) (omega (arith, left)) a₄ q₄ v₄)
+      did_read g₃ refl (omega (arith, room)) (omega (arith, left)) a₄ q₄ v₄

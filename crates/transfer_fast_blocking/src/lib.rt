@@ -7,18 +7,10 @@
 pub mod read_blocking; // byte after byte
 pub mod write_blocking; // byte after byte
 
-ghost use Rattle.std.specs.Prelude.{true, ◌≡◌, ◌+◌, ◌-◌, ◌<◌, ◌≤◌};
+ghost use Rattle.std.specs.Prelude.{◌≡◌, ◌-◌};
 ghost use Rattle.regs.specs.Fields.{level};
 
 use regs::fields::level_of;
-
-// Whether byte i is one of an operation's, and its bytes have their places, but perhaps the last
-// one: the last byte of a coded transfer is its code, which is past the lent slice.
-pub fn is_within(i: u16, len: u16, at: usize, length: usize) -> bool
-    ensures { result ≡ true → (i < len) × (at + len ≤ length + 1) }
-{
-    i < len && at <= length && usize::from(len) - 1 <= length - at
-}
 
 // The places of the transmit FIFO that are free by TXFLR: a round of an async operation fills them.
 pub fn free(v: u32) -> u16

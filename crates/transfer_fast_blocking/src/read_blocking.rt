@@ -1,14 +1,14 @@
 // `read_blocking_internal`: TXFLR has room, the byte is asked for, RXFLR has it, and it is taken.
-ghost use Rattle.std.specs.Prelude.{List, true, false, ◌≡◌, ℕ, ◌+◌, ◌<◌, ◌≤◌, length};
+ghost use Rattle.std.specs.Prelude.{List, true, false, ◌≡◌, ℕ, ◌+◌, ◌<◌};
 ghost use Rattle.transfer.specs.declared.Point.TheVariants.{ReadBlocking};
 ghost use Rattle.transfer.specs.declared.ReadPoint.TheVariants.{Room};
 ghost use Rattle.transfer_fast_blocking.specs.Inner.Bursts.{Bursts, ForAny, straight_read};
 
-use super::is_within;
-use regs::access::Recording;
+use regs::access::{Recording, keep};
 use regs::fields::{byte_of, level_of, word_of};
 use regs_runs::has;
 use transfer::Transfer;
+use transfer::counts::sum;
 
 fn is_straight(room: u32, filled: u32) -> bool
     ensures { result ≡ straight_read room filled }
@@ -18,8 +18,7 @@ fn is_straight(room: u32, filled: u32) -> bool
 
 // Byte i, where the readings lead straight on; it is not the last one.
 fn byte(t: Transfer, i: u16, recording: &mut Recording, buffer: &mut [u8]) -> bool
-    requires { (i + 1 < t.operation.len)
-        × (t.operation.at + t.operation.len ≤ length buffer.old + 1) }
+    requires { i + 1 < t.operation.len }
     ensures taken { result ≡ true
         → ForAny
         (λ (bytes : List ℕ). Bursts t bytes recording.old buffer.old (ReadBlocking (Room i))
@@ -40,39 +39,27 @@ fn byte(t: Transfer, i: u16, recording: &mut Recording, buffer: &mut [u8]) -> bo
             recording.put_read(regs::RXFLR, filled);
             recording.put_read(regs::DATA_CMD, v);
             recording.used += 3;
-            buffer[t.operation.at + usize::from(i)] = byte_of(v);
+            keep(buffer, Some((sum(t.operation.at, i), byte_of(v))));
             return true;
         }
     }
     false
 }
 
-// Byte after byte, up to the one that is next; the last one is the machine's.
-fn run(t: Transfer, from: u16, recording: &mut Recording, buffer: &mut [u8]) -> u16
-    requires { (from < t.operation.len)
-        × (t.operation.at + t.operation.len ≤ length buffer.old + 1) }
+// Byte after byte from one on, up to the one that is next; the last one is the machine's.
+pub fn burst(t: Transfer, from: u16, recording: &mut Recording, buffer: &mut [u8]) -> u16
     ensures { ForAny
         (λ (bytes : List ℕ). Bursts t bytes recording.old buffer.old (ReadBlocking (Room from))
         recording.new buffer.new (ReadBlocking (Room result))) }
 {
-    let last = t.operation.len - 1;
+    let last = t.operation.len.saturating_sub(1);
+    if last <= from {
+        return from;
+    }
     for i in from..last {
         if !byte(t, i, recording, buffer) {
             return i;
         }
     }
     last
-}
-
-// The bytes from one on, where they are within the buffer, up to the one that is next.
-pub fn burst(t: Transfer, from: u16, recording: &mut Recording, buffer: &mut [u8]) -> u16
-    ensures { ForAny
-        (λ (bytes : List ℕ). Bursts t bytes recording.old buffer.old (ReadBlocking (Room from))
-        recording.new buffer.new (ReadBlocking (Room result))) }
-{
-    if is_within(from, t.operation.len, t.operation.at, buffer.len()) {
-        run(t, from, recording, buffer)
-    } else {
-        from
-    }
 }

@@ -1,15 +1,15 @@
 // `write_blocking_internal`: the word is written, RAW_INTR_STAT says
 // that it was sent, and TX_ABRT_SOURCE that nothing was aborted.
-ghost use Rattle.std.specs.Prelude.{List, true, false, ◌≡◌, ℕ, ◌+◌, ◌<◌, ◌≤◌, length};
+ghost use Rattle.std.specs.Prelude.{List, true, false, ◌≡◌, ℕ, ◌+◌, ◌<◌};
 ghost use Rattle.transfer.specs.declared.Point.TheVariants.{WriteBlocking};
 ghost use Rattle.transfer.specs.declared.WritePoint.TheVariants.{Send};
 ghost use Rattle.transfer_fast_blocking.specs.Inner.Bursts.{Bursts, ForAny, straight_write};
 
-use super::is_within;
 use regs::access::Recording;
 use regs::fields::{has_tx_empty, word_of};
 use regs_runs::has;
 use transfer::Transfer;
+use transfer_access::words::byte_of;
 
 fn is_straight(stat: u32, source: u32) -> bool
     ensures { result ≡ straight_write stat source }
@@ -19,8 +19,7 @@ fn is_straight(stat: u32, source: u32) -> bool
 
 // Byte i, where the readings lead straight on; it is not the last one.
 fn byte(t: Transfer, i: u16, bytes: &[u8], recording: &mut Recording) -> bool
-    requires { (i + 1 < t.operation.len)
-        × (t.operation.at + t.operation.len ≤ length bytes.now + 1) }
+    requires { i + 1 < t.operation.len }
     ensures sent { result ≡ true
         → ForAny
         (λ (buffer : List ℕ). Bursts t bytes.now recording.old buffer (WriteBlocking (Send i))
@@ -34,7 +33,7 @@ fn byte(t: Transfer, i: u16, bytes: &[u8], recording: &mut Recording) -> bool
         let stat = recording.readings[recording.used];
         let source = recording.readings[recording.used + 1];
         if is_straight(stat, source) {
-            let w = word_of(bytes[t.operation.at + usize::from(i)], false, false, false);
+            let w = word_of(byte_of(bytes, t.operation.at, i), false, false, false);
             recording.put_write(regs::DATA_CMD, w);
             recording.put_read(regs::RAW_INTR_STAT, stat);
             recording.put_read(regs::TX_ABRT_SOURCE, source);
@@ -45,32 +44,20 @@ fn byte(t: Transfer, i: u16, bytes: &[u8], recording: &mut Recording) -> bool
     false
 }
 
-// Byte after byte, up to the one that is next; the last one is the machine's.
-fn run(t: Transfer, from: u16, bytes: &[u8], recording: &mut Recording) -> u16
-    requires { (from < t.operation.len)
-        × (t.operation.at + t.operation.len ≤ length bytes.now + 1) }
+// Byte after byte from one on, up to the one that is next; the last one is the machine's.
+pub fn burst(t: Transfer, from: u16, bytes: &[u8], recording: &mut Recording) -> u16
     ensures { ForAny
         (λ (buffer : List ℕ). Bursts t bytes.now recording.old buffer (WriteBlocking (Send from))
         recording.new buffer (WriteBlocking (Send result))) }
 {
-    let last = t.operation.len - 1;
+    let last = t.operation.len.saturating_sub(1);
+    if last <= from {
+        return from;
+    }
     for i in from..last {
         if !byte(t, i, bytes, recording) {
             return i;
         }
     }
     last
-}
-
-// The bytes from one on, where they are within the buffer, up to the one that is next.
-pub fn burst(t: Transfer, from: u16, bytes: &[u8], recording: &mut Recording) -> u16
-    ensures { ForAny
-        (λ (buffer : List ℕ). Bursts t bytes.now recording.old buffer (WriteBlocking (Send from))
-        recording.new buffer (WriteBlocking (Send result))) }
-{
-    if is_within(from, t.operation.len, t.operation.at, bytes.len()) {
-        run(t, from, bytes, recording)
-    } else {
-        from
-    }
 }

@@ -14,7 +14,7 @@ use Rattle.regs.specs.Inner.Machine.{entered}
 use Rattle.regs.specs.Inner.Recording.{Keeps}
 use Rattle.regs.specs.declared.access.Recording.{Recording}
 use Rattle.transfer.specs.Inner.Points.{with_point}
-use Rattle.transfer.specs.Inner.Machine.{machine, next_at, next_round, store_at, store_round, step_of, step_round, fetching, next_turn}
+use Rattle.transfer.specs.Inner.Machine.{machine, next_at, next_round, store_at, store_round, step_of, step_round, fetching, next_turn, sum_of}
 use Rattle.transfer.specs.declared.Transfer.{Transfer}
 use Rattle.transfer.specs.declared.Point.{Point}
 use Rattle.transfer.specs.declared.Point.TheVariants.{ReadAsync}
@@ -84,21 +84,17 @@ module _ {t : Transfer} {remaining count : ℕ} {before : Recording} {b : List �
       → n < count
       → 0 < remaining
       → remaining + count ≤ t.operation.len
-      → t.operation.at + t.operation.len ≤ length b + 1
-      → length b < 2 ^ 64
       → before.used + count ≤ length before.readings.now
       → before.entries + count ≤ length before.log.now / 2
       → length before.log.now < 2 ^ 64
       → Reads mid DATA_CMD v after
-      → b' ≡ set b₁ (t.operation.at + (t.operation.len - remaining - count) + n) (dat v)
+      → b' ≡ set b₁ (sum_of t.operation.at (t.operation.len - remaining - count + n)) (dat v)
       → Fetching t remaining count before b (n + 1) after b'
-  one_fetched {mid} {after} {b₁} {b'} {n} {v} g more some within held small left room fits x eb =
+  one_fetched {mid} {after} {b₁} {b'} {n} {v} g more some within left room fits x eb =
       let fewer : count - n - 1 ≡ count - (n + 1) = omega arith in
-      let place : ℕ = t.operation.at + (t.operation.len - remaining - count) + n in
-      let to : (t.operation.at + (t.operation.len - remaining - (count - n))) % 2 ^ 64 ≡ place =
-      let exact : t.operation.at + (t.operation.len - remaining - (count - n)) ≡ place = omega (arith, within, more) in
-      let low : place < 2 ^ 64 = omega (arith, within, more, some, held, small) in
-      rw exact (omega (arith, low)) in
+      let place : ℕ = sum_of t.operation.at (t.operation.len - remaining - count + n) in
+      let same : t.operation.len - remaining - (count - n) ≡ t.operation.len - remaining - count + n = omega (arith, within, more) in
+      let to : (t.operation.at + (t.operation.len - remaining - (count - n))) % 2 ^ 64 ≡ place = rw same in
       let space : mid.entries < length mid.log.now / 2 = rw g.keeps.size (omega (arith, g.entries, room, more)) in
       let has : mid.used < length mid.readings.now = rw g.keeps.readings (omega (arith, g.used, left, more)) in
       let short : length mid.log.now < 2 ^ 64 = rw g.keeps.size fits in

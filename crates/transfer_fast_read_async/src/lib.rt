@@ -11,12 +11,13 @@ ghost use Rattle.transfer.specs.declared.RoundPoint.TheVariants.{Capacity};
 ghost use Rattle.transfer_fast_blocking.specs.Inner.Bursts.{Bursts, ForAny};
 ghost use Rattle.transfer_fast_read_async.specs.Inner.Rounds.{Queued, Fetched, StraightRound, after_round};
 
-use regs::access::Recording;
+use regs::access::{Recording, keep};
 use regs::fields::{byte_of, level_of};
 use regs_runs::{has, read};
+use transfer::counts::sum;
 use transfer::{Round, Transfer};
 use transfer_access::words::word_of_queue;
-use transfer_fast_blocking::{free, is_within};
+use transfer_fast_blocking::free;
 
 // The words of a round.
 fn queue_words(t: Transfer, queue: u16, words: u16, recording: &mut Recording)
@@ -47,14 +48,14 @@ fn fetch_bytes(
     requires { (0 < count)
         × (0 < remaining)
         × (remaining + count ≤ t.operation.len)
-        × (t.operation.at + t.operation.len ≤ length buffer.old + 1)
         × (recording.old.used + count ≤ length recording.old.readings.now)
         × (recording.old.entries + count ≤ room_of recording.old) }
     ensures { Fetched t remaining count recording.old buffer.old recording.new buffer.new }
 {
-    let first = t.operation.at + usize::from(t.operation.len - remaining - count);
+    let first = t.operation.len - remaining - count;
     for n in 0..count {
-        buffer[first + usize::from(n)] = byte_of(read(recording, regs::DATA_CMD));
+        let byte = byte_of(read(recording, regs::DATA_CMD));
+        keep(buffer, Some((sum(t.operation.at, first + n), byte)));
     }
 }
 
@@ -99,8 +100,7 @@ fn one_round(
     buffer: &mut [u8],
 ) -> Round
     requires { StraightRound recording.old round plan.words plan.count
-        × (round.remaining ≤ t.operation.len)
-        × (t.operation.at + t.operation.len ≤ length buffer.old + 1) }
+        × (round.remaining ≤ t.operation.len) }
     ensures is { result ≡ after_round round plan.words plan.count }
     ensures bursts { ForAny
         (λ (bytes : List ℕ). Bursts t bytes recording.old buffer.old (ReadAsync (Capacity round))
@@ -120,32 +120,18 @@ fn one_round(
     }
 }
 
-// Round after round, up to the one that is next; the last one is the machine's.
-fn run(t: Transfer, from: Round, recording: &mut Recording, buffer: &mut [u8]) -> Round
-    requires { (from.remaining ≤ t.operation.len)
-        × (t.operation.at + t.operation.len ≤ length buffer.old + 1) }
-    ensures { ForAny
-        (λ (bytes : List ℕ). Bursts t bytes recording.old buffer.old (ReadAsync (Capacity from))
-        recording.new buffer.new (ReadAsync (Capacity result))) }
-{
-    let mut round = from;
-    while let Some(plan) = planned(round, recording) {
-        round = one_round(t, plan, round, recording, buffer);
-    }
-    round
-}
-
-// The rounds from one on, where their bytes are within the buffer, up to the one that is next.
+// Round after round from one on, up to the one that is next; the last one is the machine's.
 pub fn burst(t: Transfer, from: Round, recording: &mut Recording, buffer: &mut [u8]) -> Round
     ensures { ForAny
         (λ (bytes : List ℕ). Bursts t bytes recording.old buffer.old (ReadAsync (Capacity from))
         recording.new buffer.new (ReadAsync (Capacity result))) }
 {
-    if from.remaining <= t.operation.len
-        && is_within(0, t.operation.len, t.operation.at, buffer.len())
-    {
-        run(t, from, recording, buffer)
-    } else {
-        from
+    if t.operation.len < from.remaining {
+        return from;
     }
+    let mut round = from;
+    while let Some(plan) = planned(round, recording) {
+        round = one_round(t, plan, round, recording, buffer);
+    }
+    round
 }

@@ -15,7 +15,7 @@ ghost use Rattle.transfer_fast_write_async.specs.Inner.Fills.{Polls, StraightFil
 use regs::access::Recording;
 use regs_runs::{has, read};
 use transfer::{FillPoint, Point, Transfer};
-use transfer_access::words::word_of_fill;
+use transfer_access::words::{byte_of, word_of_fill};
 use transfer_after_waits::wait_for_stop;
 use transfer_fast_blocking::free;
 
@@ -58,8 +58,7 @@ fn fill(t: Transfer, i: u16, bytes: &[u8], recording: &mut Recording)
         (fill_word (byte_at bytes.now t.operation.at i) i t.operation.len t.operation.send_stop)
         recording.new }
 {
-    let at = t.operation.at.saturating_add(usize::from(i));
-    let byte = bytes.get(at).copied().unwrap_or(0);
+    let byte = byte_of(bytes, t.operation.at, i);
     let w = word_of_fill(byte, i, t.operation.len, t.operation.send_stop);
     recording.put_write(regs::DATA_CMD, w);
 }

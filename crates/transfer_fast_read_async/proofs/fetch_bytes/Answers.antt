@@ -6,8 +6,8 @@ use Rattle.transfer_fast_read_async.proofs.fetch_bytes.Goals as goal
 pub loop-n-preserved : goal.loop-n-preserved
 loop-n-preserved c =
     let need = c.requires in
-    one_fetched c.loop-n.invariant c.loop-n-test.true need.1 need.2 need.3 (omega arith) need.4 need.5 (omega arith)
-    c.read.ensures (rw (c.byte_of.ensures, c.from.ensures, c.from-in-loop-n.ensures))
+    one_fetched c.loop-n.invariant c.loop-n-test.true need.1 need.2 need.3 need.4 (omega arith)
+    c.read.ensures (rw (c.byte_of-byte.ensures, c.sum.ensures) at c.keep.ensures)
 
 pub returns : goal.returns
 returns c = all_fetched c.loop-n.invariant (omega (arith, c.loop-n-test.false, c.loop-n.auto.n-end))

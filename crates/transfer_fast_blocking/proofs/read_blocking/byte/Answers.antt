@@ -23,13 +23,13 @@ returns-then-is_straight-clause-taken c = λ is bytes.
     let filled = get_or r.readings.now (r.used + 1) 0 in
     let straight : straight_read room filled ≡ true = search rules in
     let both = both_of (ltb (level room) 16) (not (eqb (level filled) 0)) straight in
-    let place : t.operation.at + c.args.i < 2 ^ 64 = omega (arith, c.requires.0, c.requires.1) in
+    let stored = rw (c.byte_of.ensures, c.sum.ensures) at c.keep.ensures in
     burst_put 3
     (next_put (next_put (next_put (first_put c.put_read.ensures) (rw c.word_of-w.ensures at c.put_write.ensures))
     c.put_read-then-is_straight.ensures) c.put_read-then-is_straight-2.ensures)
-    more.1 (simp length-set)
-    (λ coded kinds lengths. rw (c.byte_of.ensures, c.from.ensures)
+    more.1 (rw stored (simp length-set))
+    (λ coded kinds lengths. rw stored
     (byte_read coded kinds lengths bytes t
     (stays (machine coded kinds lengths bytes) r.readings.now (omega arith)) more.1 more.0
     (ltb-true (level room) 16 both.0) (eqb-false (level filled) 0 (not-true (eqb (level filled) 0) both.1))
-    c.requires.0 place))
+    c.requires))

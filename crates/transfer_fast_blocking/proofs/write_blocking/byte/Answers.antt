@@ -23,9 +23,9 @@ returns-then-is_straight-clause-sent c = λ is buffer.
     let source = get_or r.readings.now (r.used + 1) 0 in
     let straight : straight_write stat source ≡ true = search rules in
     let both = both_of (tx_empty stat) (eqb source 0) straight in
-    let write = rw (c.word_of-w.ensures, c.from.ensures) at c.put_write.ensures in
+    let write = rw (c.word_of-w.ensures, c.byte_of.ensures) at c.put_write.ensures in
     burst_put 2 (next_put (next_put (first_put write) c.put_read.ensures) c.put_read-then-is_straight.ensures)
     more.1 refl
     (λ coded kinds lengths. byte_written coded kinds lengths c.args.bytes.now t
     (stays (machine coded kinds lengths c.args.bytes.now) r.readings.now (omega arith)) more.1 more.0
-    both.0 (eqb-true source 0 both.1) c.requires.0)
+    both.0 (eqb-true source 0 both.1) c.requires)

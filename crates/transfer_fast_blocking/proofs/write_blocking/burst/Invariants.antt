@@ -1,10 +1,10 @@
--- `run`: the loop's invariant is the burst up to byte i.
+-- `burst`: the loop's invariant is the burst up to byte i.
 use mathlib.Core.List.{List}
 use Prim.Native.Nat.{ℕ}
 use Rattle.transfer.specs.declared.Point.TheVariants.{WriteBlocking}
 use Rattle.transfer.specs.declared.WritePoint.TheVariants.{Send}
 use Rattle.transfer_fast_blocking.specs.Inner.Bursts.{Bursts, ForAny}
-use Rattle.transfer_fast_blocking.proofs.write_blocking.run.Given as goal
+use Rattle.transfer_fast_blocking.proofs.write_blocking.burst.Given as goal
 
 abbrev pub invariant-loop-i : goal.invariant-loop-i
 invariant-loop-i l =

@@ -1,8 +1,8 @@
--- `run`: `burst_after` adds a round to the burst so far.
+-- `burst`: `burst_after` adds a round to the burst so far.
 use Rattle.std.proofs.Common.{arith, ap, []}
 use Rattle.transfer.specs.declared.Round.{Round}
 use Rattle.transfer_fast_blocking.proofs.Bursting.{burst_after}
-use Rattle.transfer_fast_read_async.proofs.run.Goals as goal
+use Rattle.transfer_fast_read_async.proofs.burst.Goals as goal
 
 pub loop-plan-preserved : goal.loop-plan-preserved
 loop-plan-preserved c = record {

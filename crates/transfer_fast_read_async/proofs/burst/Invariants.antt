@@ -1,4 +1,4 @@
--- `run`: the loop's invariant is the burst up to a round, whose bytes are within the operation; each round puts
+-- `burst`: the loop's invariant is the burst up to a round, whose bytes are within the operation; each round puts
 -- entries, so the room in the log decreases.
 use Prim.Native.Nat.{ℕ, ◌-◌, ◌≤◌}
 use mathlib.Core.List.{List}
@@ -6,7 +6,7 @@ use Rattle.regs.specs.Inner.Recording.{room_of}
 use Rattle.transfer.specs.declared.Point.TheVariants.{ReadAsync}
 use Rattle.transfer.specs.declared.RoundPoint.TheVariants.{Capacity}
 use Rattle.transfer_fast_blocking.specs.Inner.Bursts.{Bursts, ForAny}
-use Rattle.transfer_fast_read_async.proofs.run.Given as goal
+use Rattle.transfer_fast_read_async.proofs.burst.Given as goal
 
 abbrev pub invariant-loop-plan : goal.invariant-loop-plan
 invariant-loop-plan l =
