@@ -2,10 +2,12 @@
 // text of one that is none, and the log that is kept of the open call.
 #![tactic(auto)]
 
+pub mod log; // the log
+
 ghost use Rattle.std.specs.Prelude.{◌≡◌, ◌≤◌, length};
 ghost use Rattle.text_hex.specs.Added.{Room, Added};
 ghost use Rattle.text_hex.specs.Appended.{Appended};
-ghost use Rattle.answer_lines.specs.Lines.{number_after, no_frame, warning, LOG_WORDS, KeptOn};
+ghost use Rattle.answer_lines.specs.Lines.{number_after, no_frame, warning};
 
 use answer_frames::frame_in;
 use text_hex::text::Text;
@@ -42,13 +44,4 @@ pub fn push_warning(out: &mut [u8], number: u64) -> usize
     let mut text = Text::new(out, 0);
     warn(&mut text, number);
     text.at
-}
-
-// Adds to the log of the open call what a line adds. Says where the log ends.
-pub fn keep_on(line: &[u8], log: &mut [u32], used: usize) -> usize
-    requires { (length log.old ≡ LOG_WORDS)
-        × (used ≤ LOG_WORDS) }
-    ensures { KeptOn log.old used line.now log.new result }
-{
-    explain_bus::kept::keep(line, log, used).min(log.len())
 }

@@ -15,12 +15,12 @@ use Rattle.explain_lines.specs.Inner.Said.{start_call}
 use Rattle.explain_lines.specs.Claim.{Calls}
 use Rattle.explain_lines.proofs.EveryLine.{every_input}
 
-pub whole : {s : Source} {chunk came log text : List ℕ} {ls : List (List ℕ)} (room : ℕ)
+pub whole : {s : Source} {chunk came text : List ℕ} {ls : List (List ℕ)} (room : ℕ)
     → 8195 ≤ room
     → unread s chunk ≡ []
     → input.Calls room s chunk ls came Ended
-    → Calls start_call log ls text
+    → Calls start_call [] ls text
     → text ≡ explained_input came
-whole {came = came} {log = log} {text = text} {ls = ls} room h u a b =
-    every_input log text came ls room h
+whole {came = came} {text = text} {ls = ls} room h u a b =
+    every_input text came ls room h
     (input.every_line (omega arith) a ∙ ap (λ (l : List ℕ). map (take room) (lines (l ++ came))) u) b

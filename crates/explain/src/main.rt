@@ -7,10 +7,10 @@
 #![tactic(auto)]
 
 ghost use Rattle.std.specs.Prelude.{◌≡◌, ◌+◌, length};
-ghost use Rattle.answer_lines.specs.Lines.{LOG_WORDS};
 ghost use Rattle.explain_lines.specs.Printed.{LINE_ROOM};
 ghost use Rattle.explain_lines.specs.Inner.Said.{PLACES, BUS_ROOM};
 
+use answer_lines::log::Log;
 use bus::Sign;
 use std::io::Print;
 use text_stdin::next_line;
@@ -23,12 +23,11 @@ fn explain_all(
     rt: HostRuntime,
     chunk: &mut [u8],
     line: &mut [u8],
-    log: &mut [u32],
+    log: &mut Log,
     places: &mut [Sign],
     out: &mut [u8],
 ) -> Result<End, std::io::Error>
     requires { (length line.old ≡ 8195)
-        × (length log.old ≡ LOG_WORDS)
         × (length places.old ≡ PLACES)
         × (length out.old ≡ BUS_ROOM + LINE_ROOM) }
 {
@@ -49,7 +48,7 @@ fn explain_all(
 fn main(rt: HostRuntime) {
     let mut chunk = [0u8; 65536];
     let mut line = [0u8; 8195];
-    let mut log = [0u32; 16384];
+    let mut log = Log::new();
     let mut places = [Sign::Stop; 32768];
     let mut out = [0u8; 311821];
     match explain_all(rt, &mut chunk, &mut line, &mut log, &mut places, &mut out) {

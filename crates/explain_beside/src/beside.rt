@@ -12,7 +12,7 @@ ghost use Rattle.explain_beside.specs.Inner.Parts.{data_text, closing_text};
 use super::transfer::{Transfer, written};
 use bus::{Condition, Sign};
 use explain_bus::line::{letter, push_byte, push_run, push_sign};
-use explain_frames::{explain, push_words};
+use explain_frames::{Begin, explain, push_words};
 use regs::fields::{byte_of, has_stop, is_read};
 use text_hex::text::Text;
 
@@ -89,7 +89,7 @@ fn push_word(text: &mut Text, transfer: Transfer, w: u32)
     ensures { Added text.old (word_line transfer w) 16900 text.new }
 {
     let start = text.at;
-    push_words(text, 1, u32::from(regs::DATA_CMD), w);
+    push_words(text, Begin::Write, u32::from(regs::DATA_CMD), w);
     push_spaces(text, start + 52);
     text.push_text(b"  bus:");
     push_piece(text, transfer, w);

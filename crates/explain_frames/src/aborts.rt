@@ -11,43 +11,49 @@ use text_hex::text::Text;
 use text_tables::decimal::push_digits;
 use text_tables::rows::{push_cell, push_flags};
 
-// How many causes there are, and the name of the lowest.
-fn push_counted(text: &mut Text, table: &[u8], c: Counted)
-    requires room { Room 44 text.old }
-    requires names { table.now ≡ aborts_flags }
-    requires a_cause { c.lowest < 17 }
-    ensures { Added text.old (counted_text (Some c)) 44 text.new }
-{
-    let count = u64::from(c.count);
-    let lowest = c.lowest as usize;
-    text.push_text(b"; causes ");
-    push_digits(text, 2, count);
-    text.push_text(b", lowest ");
-    push_cell(text, table, 24, lowest);
+// The names of the causes, a row of 24 bytes for each.
+#[derive(Drop)]
+struct Names<'a> {
+    table: &'a [u8],
+    ghost of_causes: { table.now ≡ aborts_flags },
 }
 
-fn push_causes(text: &mut Text, table: &[u8], w: u32)
-    requires room { Room 44 text.old }
-    requires names { table.now ≡ aborts_flags }
-    ensures { Added text.old (causes_text w) 44 text.new }
-{
-    if w == 0 {
-        return;
+impl<'a> Names<'a> {
+    // How many causes there are, and the name of the lowest.
+    fn push_counted(&self, text: &mut Text, c: Counted)
+        requires room { Room 44 text.old }
+        requires a_cause { c.lowest < 17 }
+        ensures { Added text.old (counted_text (Some c)) 44 text.new }
+    {
+        let count = u64::from(c.count);
+        let lowest = c.lowest as usize;
+        text.push_text(b"; causes ");
+        push_digits(text, 2, count);
+        text.push_text(b", lowest ");
+        push_cell(text, self.table, 24, lowest);
     }
-    match causes(w) {
-        None => text.push_text(b"; no cause"),
-        Some(c) => push_counted(text, table, c),
-    }
-}
 
-fn push_named(text: &mut Text, table: &[u8], n: usize, w: u32)
-    requires room { Room (25 * n + 44) text.old }
-    requires few { n ≤ 17 }
-    requires names { table.now ≡ aborts_flags }
-    ensures { Added text.old (flags aborts_flags n 0 w ++ causes_text w) (25 * n + 44) text.new }
-{
-    push_flags(text, table, n, w);
-    push_causes(text, table, w);
+    fn push_causes(&self, text: &mut Text, w: u32)
+        requires { Room 44 text.old }
+        ensures { Added text.old (causes_text w) 44 text.new }
+    {
+        if w == 0 {
+            return;
+        }
+        match causes(w) {
+            None => text.push_text(b"; no cause"),
+            Some(c) => self.push_counted(text, c),
+        }
+    }
+
+    fn push_abort(&self, text: &mut Text, n: usize, w: u32)
+        requires room { Room (25 * n + 44) text.old }
+        requires few { n ≤ 17 }
+        ensures { Added text.old (flags aborts_flags n 0 w ++ causes_text w) (25 * n + 44) text.new }
+    {
+        push_flags(text, self.table, n, w);
+        self.push_causes(text, w);
+    }
 }
 
 // The names of those of the first n causes that are set, and then the causes: no names where n is 0.
@@ -56,15 +62,13 @@ pub fn push_abort(text: &mut Text, n: usize, w: u32)
     requires few { n ≤ 17 }
     ensures { Added text.old (flags aborts_flags n 0 w ++ causes_text w) (25 * n + 44) text.new }
 {
-    push_named(
-        text,
-        b"7B_ADDR_NOACK...........10ADDR1_NOACK...........10ADDR2_NOACK...........\
+    let names = Names {
+        table: b"7B_ADDR_NOACK...........10ADDR1_NOACK...........10ADDR2_NOACK...........\
           TXDATA_NOACK............GCALL_NOACK.............GCALL_READ..............\
           HS_ACKDET...............SBYTE_ACKDET............HS_NORSTRT..............\
           SBYTE_NORSTRT...........10B_RD_NORSTRT..........MASTER_DIS..............\
           ARB_LOST................SLVFLUSH_TXFIFO.........SLV_ARBLOST.............\
           SLVRD_INTX..............USER_ABRT...............",
-        n,
-        w,
-    );
+    };
+    names.push_abort(text, n, w);
 }

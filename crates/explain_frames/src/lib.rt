@@ -8,6 +8,7 @@ ghost use Rattle.text_hex.specs.Added.{Room, Added};
 ghost use Rattle.text_hex.specs.Appended.{Appended};
 ghost use Rattle.text_tables.specs.Rows.{cell, flags};
 ghost use Rattle.explain_frames.specs.Tables.{names, interrupts_flags, words, answers};
+ghost use Rattle.explain_frames.specs.Begins.{begin_row};
 ghost use Rattle.explain_frames.specs.Texts.{state_fields, fields, name_row, access_words, access_text};
 ghost use Rattle.explain_frames.specs.Texts.{mark_text, buffer_text, detail_text, answer_text};
 ghost use Rattle.explain_frames.specs.Texts.{abort_text, frame_text, explained};
@@ -23,11 +24,28 @@ pub const LONGEST: usize = 8194;
 pub const ROOM: usize = 16900;
 
 // What a line begins with.
-fn push_begin(text: &mut Text, row: usize)
-    requires room { Room 12 text.old }
-    requires in_table { row < 6 }
-    ensures { Added text.old (cell words 12 row) 12 text.new }
+#[derive(Clone, Copy, PartialEq, Eq)]
+pub enum Begin {
+    Read,
+    Write,
+    Pending,
+    BlockReset,
+    Buffer,
+    Answer,
+}
+
+fn begin_row(begin: Begin) -> usize
+    ensures row { result ≡ begin_row begin }
+    ensures in_table { result < 6 }
 {
+    begin as usize
+}
+
+fn push_begin(text: &mut Text, begin: Begin)
+    requires { Room 12 text.old }
+    ensures { Added text.old (cell words 12 (begin_row begin)) 12 text.new }
+{
+    let row = begin_row(begin);
     push_cell(
         text,
         b"read  ......write ......pending.....block reset.buffer......answer .....",
@@ -133,10 +151,9 @@ fn push_fields(text: &mut Text, offset: u32, w: u32)
 }
 
 // An access without the end of its line.
-pub fn push_words(text: &mut Text, begin: usize, offset: u32, w: u32)
-    requires room { Room 512 text.old }
-    requires in_table { begin < 6 }
-    ensures { Added text.old (access_words begin offset w) 510 text.new }
+pub fn push_words(text: &mut Text, begin: Begin, offset: u32, w: u32)
+    requires { Room 512 text.old }
+    ensures { Added text.old (access_words (begin_row begin) offset w) 510 text.new }
 {
     push_begin(text, begin);
     push_name(text, offset);
@@ -146,19 +163,17 @@ pub fn push_words(text: &mut Text, begin: usize, offset: u32, w: u32)
     push_fields(text, offset, w);
 }
 
-fn push_access(text: &mut Text, begin: usize, offset: u32, w: u32)
-    requires room { Room 512 text.old }
-    requires in_table { begin < 6 }
-    ensures { Added text.old (access_text begin offset w) 512 text.new }
+fn push_access(text: &mut Text, begin: Begin, offset: u32, w: u32)
+    requires { Room 512 text.old }
+    ensures { Added text.old (access_text (begin_row begin) offset w) 512 text.new }
 {
     push_words(text, begin, offset, w);
     text.push(b'\n');
 }
 
-fn push_mark(text: &mut Text, begin: usize)
-    requires room { Room 512 text.old }
-    requires in_table { begin < 6 }
-    ensures { Added text.old (mark_text begin) 512 text.new }
+fn push_mark(text: &mut Text, begin: Begin)
+    requires { Room 512 text.old }
+    ensures { Added text.old (mark_text (begin_row begin)) 512 text.new }
 {
     push_begin(text, begin);
     text.push(b'\n');
@@ -168,7 +183,7 @@ fn push_buffer(text: &mut Text, line: &[u8])
     requires { Room (16 + 2 * length line.now) text.old }
     ensures { Added text.old (buffer_text line.now) (16 + 2 * length line.now) text.new }
 {
-    push_begin(text, 4);
+    push_begin(text, Begin::Buffer);
     push_pairs(text, line);
     text.push(b'\n');
 }
@@ -224,7 +239,7 @@ fn push_answer(text: &mut Text, n: u32, d: u32)
     requires { Room 512 text.old }
     ensures { Added text.old (answer_text n d) 512 text.new }
 {
-    push_begin(text, 5);
+    push_begin(text, Begin::Answer);
     push_number(text, n);
     push_detail(text, d);
     push_abort_of(text, n, d);
@@ -237,10 +252,10 @@ fn push_frame(text: &mut Text, line: &[u8], f: Frame)
     ensures { Added text.old (frame_text line.now f) 16900 text.new }
 {
     match f {
-        Frame::Read(offset, w) => push_access(text, 0, offset, w),
-        Frame::Write(offset, w) => push_access(text, 1, offset, w),
-        Frame::Pending => push_mark(text, 2),
-        Frame::BlockReset => push_mark(text, 3),
+        Frame::Read(offset, w) => push_access(text, Begin::Read, offset, w),
+        Frame::Write(offset, w) => push_access(text, Begin::Write, offset, w),
+        Frame::Pending => push_mark(text, Begin::Pending),
+        Frame::BlockReset => push_mark(text, Begin::BlockReset),
         Frame::Buffer => push_buffer(text, line),
         Frame::Answer(n, d) => push_answer(text, n, d),
     }

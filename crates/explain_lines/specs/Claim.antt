@@ -14,10 +14,10 @@ pub data Calls : Call → List ℕ → List (List ℕ) → List ℕ → Type 0 w
       → Calls r.call log' ls text
       → Calls c log (line ∷ ls) (take r.made out ++ text)
 
--- whoever makes such calls with the lines of an input, each cut at its buffer's end, has written what Printed says of the input
+-- whoever makes such calls from an empty log with the lines of an input, each cut at its buffer's end, has written what Printed says of the input
 abbrev pub EveryInput : Type 0
-EveryInput = (log text input : List ℕ) (ls : List (List ℕ)) (room : ℕ)
+EveryInput = (text input : List ℕ) (ls : List (List ℕ)) (room : ℕ)
     → 8195 ≤ room
     → ls ≡ map (take room) (lines input)
-    → Calls start_call log ls text
+    → Calls start_call [] ls text
     → text ≡ explained_input input

@@ -9,17 +9,17 @@ ghost use Rattle.explain_lines.specs.Printed.{own_text, bus_text, LINE_ROOM};
 ghost use Rattle.explain_lines.specs.Inner.Said.{closed_call, start_call, PLACES, BUS_ROOM, Lent, SaidAs};
 
 use answer_frames::{frame_in, is_answer};
-use answer_lines::{keep_on, no_frame, number_after, push_warning};
+use answer_lines::log::Log;
+use answer_lines::{no_frame, number_after, push_warning};
 use bus::Sign;
 use explain_beside::beside::tell;
 use explain_beside::transfer::{Transfer, after};
 use explain_bus::line::{ROOM, bus_line};
 
-// How many lines came, how much of the open call's log is used, and what stands before its next frame.
+// How many lines came, and what stands before the next frame of the open call.
 #[derive(Clone, Copy)]
 pub struct Call {
     pub lines: u64,
-    pub used: usize,
     pub transfer: Option<Transfer>,
 }
 
@@ -44,7 +44,6 @@ impl Call {
     {
         Call {
             lines,
-            used: 0,
             transfer: None,
         }
     }
@@ -64,15 +63,14 @@ impl Call {
 
     // An answer's text behind the bus line of its call.
     fn push_answer(self, line: &[u8], log: &[u32], places: &mut [Sign], out: &mut [u8]) -> usize
-        requires used { self.used ≤ length log.now }
-        requires words { self.used ≤ LOG_WORDS }
+        requires words { length log.now ≤ LOG_WORDS }
         requires signs { PLACES ≤ length places.old }
         requires room { BUS_ROOM + LINE_ROOM ≤ length out.old }
         ensures { Appended out.old 0
-            (bus_text (take self.used log.now) ++ own_text (number_after self.lines) self.transfer line.now)
+            (bus_text log.now ++ own_text (number_after self.lines) self.transfer line.now)
             (length out.old) out.new result }
     {
-        let bus_end = push_bus(&log[..self.used], places, out);
+        let bus_end = push_bus(log, places, out);
         bus_end + self.push_own(line, &mut out[bus_end..])
     }
 }
@@ -94,11 +92,11 @@ pub fn explain_line(
     call: Call,
     text: &[u8],
     held: usize,
-    log: &mut [u32],
+    log: &mut Log,
     places: &mut [Sign],
     out: &mut [u8],
 ) -> Said
-    requires { Lent call text.now held log.old places.old out.old }
+    requires { Lent text.now held places.old out.old }
     ensures { SaidAs call log.old
         (take held text.now)
         log.new out.new result }
@@ -106,17 +104,14 @@ pub fn explain_line(
     let line = &text[..held];
     let lines = number_after(call.lines);
     if is_answer(frame_in(line)) {
-        let made = call.push_answer(line, log, places, out);
+        let made = call.push_answer(line, log.words(), places, out);
+        log.clear();
         let call = Call::closed(lines);
         return Said { call, made };
     }
     let made = call.push_own(line, out);
-    let used = keep_on(line, log, call.used);
+    log.keep(line);
     let transfer = after(call.transfer, line);
-    let call = Call {
-        lines,
-        used,
-        transfer,
-    };
+    let call = Call { lines, transfer };
     Said { call, made }
 }

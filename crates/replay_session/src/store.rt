@@ -5,7 +5,7 @@ ghost use Rattle.replay_session.specs.Inner.Enter.{no_counts, over_of, more, add
 ghost use Rattle.replay_session.specs.Inner.Enter.{Few, FewIf, Within, SameLists, arrays_of, stored, with_reading, PutBehind};
 
 use super::{Counts, Filled, Lists};
-use text_hex::digits::put_bytes;
+use text_hex::digits::{put, put_bytes};
 
 impl Filled {
     // With one more operation, of b bytes to write and m to read, unless that is beyond the limits.
@@ -108,14 +108,5 @@ impl<'a> Lists<'a> {
         ensures put { arrays_of self.new ≡ with_reading at (arrays_of self.old) word }
     {
         put(self.readings, at, word);
-    }
-}
-
-// Stores, where the index is in range.
-pub fn put<T: Copy>(a: &mut [T], at: usize, v: T)
-    ensures { a.new ≡ set a.old at v }
-{
-    if at < a.len() {
-        a[at] = v;
     }
 }

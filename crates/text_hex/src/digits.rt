@@ -75,12 +75,12 @@ fn pair(ds: &[u8], i: usize) -> u8
 }
 
 // A store, where the index is in range.
-pub fn put(bytes: &mut [u8], at: usize, v: u8)
-    ensures { bytes.new ≡ set bytes.old at v }
+pub fn put<T: Copy>(items: &mut [T], at: usize, v: T)
+    ensures { items.new ≡ set items.old at v }
 {
     // `get_mut` does not say that the rest of the buffer stays as it was.
-    if at < bytes.len() {
-        bytes[at] = v;
+    if at < items.len() {
+        items[at] = v;
     }
 }
 

@@ -1,6 +1,6 @@
 // Text put into a lent buffer, one piece behind the other: bytes, hexadecimal numbers, and answers.
 ghost use Rattle.std.specs.Prelude.{◌≡◌, [], ◌∷◌, ◌+◌, ◌*◌, ◌<◌, ◌≤◌, length};
-ghost use Rattle.text_hex.specs.Text.{hex2, hex4, hex8};
+ghost use Rattle.text_hex.specs.Text.{hex2, hex8};
 ghost use Rattle.text_hex.specs.Print.{plain_frame, word_frame, bytes_text, buffer_text, answer_text};
 ghost use Rattle.text_hex.specs.Added.{Room, Added};
 
@@ -41,7 +41,7 @@ impl<'a> Text<'a> {
         }
     }
 
-    // A number in 2 digits, which are made as `pairs` says. So are 4 and 8 digits.
+    // A number in 2 digits, which are made as `pairs` says. So are 8 digits.
     pub fn push_hex2_by<P: BytePairs>(&mut self, pairs: &P, n: u32)
         requires { Room 2 self.old }
         ensures { Added self.old (hex2 n) 2 self.new }
@@ -51,20 +51,16 @@ impl<'a> Text<'a> {
         self.push(pair.low);
     }
 
-    fn push_hex4_by<P: BytePairs>(&mut self, pairs: &P, n: u32)
-        requires { Room 4 self.old }
-        ensures { Added self.old (hex4 n) 4 self.new }
-    {
-        self.push_hex2_by(pairs, n / 256 % 256);
-        self.push_hex2_by(pairs, n % 256);
-    }
-
     fn push_hex8_by<P: BytePairs>(&mut self, pairs: &P, n: u32)
         requires { Room 8 self.old }
         ensures { Added self.old (hex8 n) 8 self.new }
     {
-        self.push_hex4_by(pairs, n / 65536 % 65536);
-        self.push_hex4_by(pairs, n % 65536);
+        let high = n / 65536 % 65536;
+        let low = n % 65536;
+        self.push_hex2_by(pairs, high / 256 % 256);
+        self.push_hex2_by(pairs, high % 256);
+        self.push_hex2_by(pairs, low / 256 % 256);
+        self.push_hex2_by(pairs, low % 256);
     }
 
     // A number in 2 digits.

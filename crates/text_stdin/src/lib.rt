@@ -115,13 +115,6 @@ fn held_if(some: bool, held: usize) -> Option<usize>
     some.then_some(held)
 }
 
-// The number of lines with this one.
-fn count_on(lines: u64, some: bool) -> u64
-    ensures { result ≡ counted lines some }
-{
-    lines.saturating_add(u64::from(some))
-}
-
 // The next line, without its LF. A last line may lack it; behind an LF that is the last byte there is
 // no further line. Of a line that a failed read cut nothing is handed out.
 pub fn next_line(rt: HostRuntime, from: Source, chunk: &mut [u8], line: &mut [u8]) -> Line
@@ -143,7 +136,7 @@ pub fn next_line(rt: HostRuntime, from: Source, chunk: &mut [u8], line: &mut [u8
     let source = Source {
         at: part.at,
         filled: part.filled,
-        lines: count_on(from.lines, some),
+        lines: from.lines.saturating_add(u64::from(some)),
         end: end_after(part.ended, end),
     };
     Line {

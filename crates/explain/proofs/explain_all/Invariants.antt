@@ -1,9 +1,7 @@
 -- `explain_all`: safety and termination, and what `explain_line` requires. The invariant is `Within`, the part of the chunk
--- that is still to be read being inside it, and that the used part of the log is inside it.
-use Rattle.std.proofs.Common.{◌≤◌}
-use Rattle.answer_lines.specs.Lines.{LOG_WORDS}
+-- that is still to be read being inside it.
 use Rattle.text_stdin.specs.Handed.{Within}
 use Rattle.explain.proofs.explain_all.Given as goal
 
 abbrev pub invariant-loop : goal.invariant-loop
-invariant-loop l = Within l.source l.chunk × (l.call.used ≤ LOG_WORDS)
+invariant-loop l = Within l.source l.chunk

@@ -4,4 +4,4 @@ use Rattle.explain_frames.proofs.push_begin.Goals as goal
 
 pub returns : goal.returns
 unfolding words
-returns c = c.push_cell.ensures
+returns c = rw (← c.begin_row-row.ensures.row) c.push_cell.ensures

@@ -1,21 +1,20 @@
 -- What a call of `explain_line` leaves and prints. Only contracts cite this.
 use Rattle.std.specs.Prelude.{ℕ, ◌+◌, ◌≤◌, List, ◌≡◌, length, take, None}
 use Rattle.bus.specs.declared.Sign.{Sign}
-use Rattle.answer_lines.specs.Lines.{LOG_WORDS}
 use Rattle.explain_lines.specs.Printed.{Open, open_after, line_text, LINE_ROOM}
 use Rattle.explain_lines.specs.declared.Call.{Call}
 use Rattle.explain_lines.specs.declared.Said.{Said}
 
 -- behind so many lines, with no call open
 abbrev pub closed_call : ℕ → Call
-closed_call lines = record { lines = lines; used = 0; transfer = None }
+closed_call lines = record { lines = lines; transfer = None }
 
 abbrev pub start_call : Call
 start_call = closed_call 0
 
--- what is kept, with the part of the log that is used
+-- what is kept, with the log
 abbrev pub open_of : Call → List ℕ → Open
-open_of c log = record { lines = c.lines; transfer = c.transfer; log = take c.used log }
+open_of c log = record { lines = c.lines; transfer = c.transfer; log = log }
 
 -- how many signs a log can make, and the room for their text
 abbrev pub PLACES : ℕ
@@ -24,13 +23,11 @@ PLACES = 32768
 abbrev pub BUS_ROOM : ℕ
 BUS_ROOM = 294921
 
--- the buffers: a line that was cut at its buffer's end is longer than every answer frame, the log has its 8,192
--- entries, and there is room for the signs, and for a bus line with the answer behind it
-pub record Lent (c : Call) (text : List ℕ) (held : ℕ) (log : List ℕ) (places : List Sign) (out : List ℕ) : Type 0 where
+-- the buffers: a line that was cut at its buffer's end is longer than every answer frame, and there is room for the
+-- signs, and for a bus line with the answer behind it
+pub record Lent (text : List ℕ) (held : ℕ) (places : List Sign) (out : List ℕ) : Type 0 where
   pub cut : 8195 ≤ length text
   pub line : held ≤ length text
-  pub words : length log ≡ LOG_WORDS
-  pub used : c.used ≤ LOG_WORDS
   pub signs : PLACES ≤ length places
   pub room : BUS_ROOM + LINE_ROOM ≤ length out
 
@@ -38,4 +35,3 @@ pub record SaidAs (c : Call) (log line log' out : List ℕ) (r : Said) : Type 0 
   pub after : open_of r.call log' ≡ open_after (open_of c log) line
   pub text : take r.made out ≡ line_text (open_of c log) line
   pub made : r.made ≤ length out
-  pub used : r.call.used ≤ LOG_WORDS

@@ -3,6 +3,6 @@ use mathlib.Core.Path.{refl}
 use Rattle.explain_frames.specs.Tables.{aborts_flags}
 use Rattle.explain_frames.proofs.aborts.push_abort.Goals as goal
 
-pub push_named-requires-clause-names : goal.push_named-requires-clause-names
+pub invariant_of-names : goal.invariant_of-names
 unfolding aborts_flags
-push_named-requires-clause-names c = refl
+invariant_of-names c = record { of_causes = refl }

@@ -6,7 +6,7 @@ use borrow.Author.Tests.{eq-eqb, ne_eqb}
 use Rattle.text_hex.proofs.Adding.{no_text, at_most}
 use Rattle.regs_causes.proofs.Laws.{told}
 use Rattle.explain_frames.specs.Texts.{causes_text, counted_text}
-use Rattle.explain_frames.proofs.aborts.push_causes.Goals as goal
+use Rattle.explain_frames.proofs.aborts.Names.push_causes.Goals as goal
 
 pub returns-then-w-eq0 : goal.returns-then-w-eq0
 unfolding causes_text

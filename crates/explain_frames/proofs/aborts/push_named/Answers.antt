@@ -1,8 +1,0 @@
--- `push_named`: the flags of the table that is lent, which is `aborts_flags`, and then the causes.
-use Rattle.std.proofs.Common.{arith, ap, length}
-use Rattle.explain_frames.specs.Tables.{aborts_flags}
-use Rattle.explain_frames.proofs.aborts.push_named.Goals as goal
-
-pub push_flags-requires-clause-in_table : goal.push_flags-requires-clause-in_table
-unfolding aborts_flags
-push_flags-requires-clause-in_table c = omega (arith, ap length c.requires.names, c.requires.few)
