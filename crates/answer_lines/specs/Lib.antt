@@ -1,2 +1,3 @@
 -- Lines of answers in order.
 pub mod Lines
+pub mod Inner

@@ -3,7 +3,7 @@ ghost use Rattle.std.specs.Prelude.{ℕ, List, ◌≡◌, [], ◌+◌, ◌≤◌
 ghost use Rattle.text_hex.specs.Appended.{Appended};
 ghost use Rattle.answer_frames.specs.Frames.{frame_of};
 ghost use Rattle.explain_bus.specs.Line.{kept_of};
-ghost use Rattle.explain_bus.specs.Inner.Words.{entry_words};
+ghost use Rattle.answer_lines.specs.Inner.Words.{entry_words};
 ghost use Rattle.answer_lines.specs.Lines.{kept_on};
 
 use answer_frames::{Frame, frame_in};

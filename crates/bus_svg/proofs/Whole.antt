@@ -18,14 +18,14 @@ use Rattle.svg_lines.specs.declared.Kept.{Kept}
 use Rattle.svg_lines.specs.Claim.{Calls, AllWritten}
 use Rattle.svg_lines.proofs.EveryLine.{every_input}
 
-pub whole : {s : Source} {chunk came log output errors before last : List ℕ} {ls : List (List ℕ)} {m : Kept} {made : ℕ} (room : ℕ)
+pub whole : {s : Source} {chunk came output errors before last : List ℕ} {ls : List (List ℕ)} {m : Kept} {made : ℕ} (room : ℕ)
     → 8195 ≤ room
     → unread s chunk ≡ []
     → input.Calls room s chunk ls came Ended
-    → Calls start_kept log ls output errors m
-    → Appended before 0 (last_warning m.used) 38 last made
+    → Calls start_kept [] ls output errors m
+    → Appended before 0 (last_warning m.drawn) 38 last made
     → AllWritten (drawn_input came) output (errors ++ take made last)
-whole {came = came} {log = log} {output = output} {errors = errors} {before = before} {last = last} {ls = ls} {m = m} {made = made} room h u
+whole {came = came} {output = output} {errors = errors} {before = before} {last = last} {ls = ls} {m = m} {made = made} room h u
     a b f =
-    every_input log output errors before last came ls m made room h
+    every_input output errors before last came ls m made room h
     (input.every_line (omega arith) a ∙ ap (λ (l : List ℕ). map (take room) (lines (l ++ came))) u) b f

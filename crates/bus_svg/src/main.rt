@@ -6,17 +6,25 @@
 // because the input could not be read to its end, or it could not be written, standard error says so.
 #![tactic(auto)]
 
-ghost use Rattle.std.specs.Prelude.{[], ◌≡◌, ◌≤◌, length, if◌then◌else◌};
+ghost use Rattle.std.specs.Prelude.{[], if◌then◌else◌};
 ghost use Rattle.text_hex.specs.Appended.{Appended};
 ghost use Rattle.text_stdin.specs.Reads.{is_ended_at};
-ghost use Rattle.answer_lines.specs.Lines.{LOG_WORDS};
-ghost use Rattle.svg_lines.specs.Inner.Said.{PLACES, PICTURE_ROOM, last_warning};
+ghost use Rattle.svg_lines.specs.Inner.Said.{last_warning};
 
+use answer_lines::log::Log;
 use bus::Sign;
 use std::io::Print;
 use svg_lines::Kept;
 use text_stdin::next_line;
 use text_stdin::reads::End;
+
+// A line that was cut is longer than every answer frame.
+const LINE: usize = 8195;
+
+// As many signs as a log can make, and room for their picture.
+const SIGNS: usize = 32768;
+
+const ROOM: usize = 53000;
 
 // What is kept where the lines end, how the input stands then, and whether all was written. That is no
 // `Result` of the other two, which are told of also where a write failed.
@@ -29,9 +37,10 @@ struct Stopped {
 
 // Writes a text of a line: the picture, or a warning.
 fn put(rt: HostRuntime, kept: Kept, text: &[u8]) -> bool {
-    match kept.used {
-        None => rt.stdout().write_all(text).is_ok(),
-        Some(_) => rt.stderr().write_all(text).is_ok(),
+    if kept.drawn {
+        rt.stdout().write_all(text).is_ok()
+    } else {
+        rt.stderr().write_all(text).is_ok()
     }
 }
 
@@ -40,16 +49,11 @@ fn put(rt: HostRuntime, kept: Kept, text: &[u8]) -> bool {
 fn draw_all(
     rt: HostRuntime,
     chunk: &mut [u8],
-    line: &mut [u8],
-    log: &mut [u32],
-    places: &mut [Sign],
-    out: &mut [u8],
-) -> Stopped
-    requires { (length line.old ≡ 8195)
-        × (length log.old ≡ LOG_WORDS)
-        × (length places.old ≡ PLACES)
-        × (length out.old ≡ PICTURE_ROOM) }
-{
+    line: &mut [u8; LINE],
+    log: &mut Log,
+    places: &mut [Sign; SIGNS],
+    out: &mut [u8; ROOM],
+) -> Stopped {
     let mut source = text_stdin::start();
     let mut kept = svg_lines::start();
     let mut written = true;
@@ -62,7 +66,7 @@ fn draw_all(
         kept = s.kept;
         let made = s.made;
         written = put(rt, kept, &out[..made]);
-        if kept.used.is_none() || !written {
+        if kept.drawn || !written {
             break;
         }
     }
@@ -71,10 +75,9 @@ fn draw_all(
 }
 
 // That nothing was drawn is said at the end of the input only: where it was not read so far, nobody knows.
-fn finish(kept: Kept, end: End, out: &mut [u8]) -> usize
-    requires { PICTURE_ROOM ≤ length out.old }
+fn finish(kept: Kept, end: End, out: &mut [u8; ROOM]) -> usize
     ensures { Appended out.old 0
-        (if is_ended_at end then last_warning kept.used else [])
+        (if is_ended_at end then last_warning kept.drawn else [])
         38 out.new result }
 {
     if end == End::Ended {
@@ -86,15 +89,15 @@ fn finish(kept: Kept, end: End, out: &mut [u8]) -> usize
 
 fn main(rt: HostRuntime) {
     let mut chunk = [0u8; 65536];
-    let mut line = [0u8; 8195];
-    let mut log = [0u32; 16384];
-    let mut places = [Sign::Stop; 32768];
-    let mut out = [0u8; 53000];
+    let mut line = [0u8; LINE];
+    let mut log = Log::new();
+    let mut places = [Sign::Stop; SIGNS];
+    let mut out = [0u8; ROOM];
     let s = draw_all(rt, &mut chunk, &mut line, &mut log, &mut places, &mut out);
     let made = finish(s.kept, s.end, &mut out);
     let _ = rt.stderr().write_all(&out[..made]);
     // A picture that was written needs no word about the rest of the input, which is not read.
-    if s.kept.used.is_some() || !s.written {
+    if !s.kept.drawn || !s.written {
         text_stdin::report::stopped(rt, b"bus_svg", s.written, s.end);
     }
 }

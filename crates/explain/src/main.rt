@@ -6,10 +6,6 @@
 // standard error says so.
 #![tactic(auto)]
 
-ghost use Rattle.std.specs.Prelude.{◌≡◌, ◌+◌, length};
-ghost use Rattle.explain_lines.specs.Printed.{LINE_ROOM};
-ghost use Rattle.explain_lines.specs.Inner.Said.{PLACES, BUS_ROOM};
-
 use answer_lines::log::Log;
 use bus::Sign;
 use std::io::Print;
@@ -17,20 +13,24 @@ use text_stdin::next_line;
 use text_stdin::reads::End;
 use text_stdin::report::{unread, unwritten};
 
+// A line that was cut is longer than every answer frame.
+const LINE: usize = 8195;
+
+// As many signs as a log can make, and room for their bus line with an answer behind it.
+const SIGNS: usize = 32768;
+
+const ROOM: usize = 311821;
+
 // Line after line to the end of the input. Says how the input stands there, or why a text was not written.
 #[tactic(auto, using(text_stdin::proofs::EveryLine::held_fits))]
 fn explain_all(
     rt: HostRuntime,
     chunk: &mut [u8],
-    line: &mut [u8],
+    line: &mut [u8; LINE],
     log: &mut Log,
-    places: &mut [Sign],
-    out: &mut [u8],
-) -> Result<End, std::io::Error>
-    requires { (length line.old ≡ 8195)
-        × (length places.old ≡ PLACES)
-        × (length out.old ≡ BUS_ROOM + LINE_ROOM) }
-{
+    places: &mut [Sign; SIGNS],
+    out: &mut [u8; ROOM],
+) -> Result<End, std::io::Error> {
     let mut source = text_stdin::start();
     let mut call = explain_lines::start();
     // A proved loop ends, so it counts its turns up to a number that no run reaches.
@@ -47,10 +47,10 @@ fn explain_all(
 
 fn main(rt: HostRuntime) {
     let mut chunk = [0u8; 65536];
-    let mut line = [0u8; 8195];
+    let mut line = [0u8; LINE];
     let mut log = Log::new();
-    let mut places = [Sign::Stop; 32768];
-    let mut out = [0u8; 311821];
+    let mut places = [Sign::Stop; SIGNS];
+    let mut out = [0u8; ROOM];
     match explain_all(rt, &mut chunk, &mut line, &mut log, &mut places, &mut out) {
         Ok(end) => unread(rt, b"explain", end),
         Err(_) => unwritten(rt, b"explain"),

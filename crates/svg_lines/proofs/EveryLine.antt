@@ -1,11 +1,10 @@
 -- Calls of `draw_line` one after the other, and one of `finish`, write what Drawn says: each call before the picture is a turn by
 -- its contract, behind the picture nothing is written, and lines that were cut are taken as if whole.
 use Prim.Native.Nat.{ℕ, ◌≤◌, ◌<◌}
+use mathlib.Core.Bool.{Bool, true, false, true≢false}
 use mathlib.Core.List.{List, [], ◌∷◌, ◌++◌, map, append_assoc, append-nil}
 use mathlib.Core.Path.{◌≡◌, refl, sym, ap, subst, ◌∙◌}
 use lib.ListN.{length, take}
-use Rattle.std.specs.Prelude.{Option, Some, None}
-use Rattle.std.proofs.lemmas.Option.{none-some}
 use Rattle.text_hex.specs.Text.{lines}
 use Rattle.answer_lines.specs.Lines.{number_after, warning}
 use Rattle.answer_lines.proofs.Long.{long_kept, long_answer, long_none, cut_same}
@@ -18,15 +17,15 @@ use Rattle.svg_lines.specs.declared.Said.{Said}
 abbrev nothing : Written
 nothing = record { output = []; errors = [] }
 
-record Wrote (w : Written) (output errors : List ℕ) (used : Option ℕ) : Type 0 where
+record Wrote (w : Written) (output errors : List ℕ) (drawn : Bool) : Type 0 where
   out : output ≡ w.output
-  err : errors ++ last_warning used ≡ w.errors
+  err : errors ++ last_warning drawn ≡ w.errors
 
 -- behind the picture nothing is written
 over : {k m : Kept} {log output errors : List ℕ} {ls : List (List ℕ)}
     → Calls k log ls output errors m
-    → k.used ≡ None
-    → Wrote nothing output errors m.used
+    → k.drawn ≡ true
+    → Wrote nothing output errors m.drawn
 over none e = record { out = refl; err = rw e }
 over (stops h) e = record { out = refl; err = rw e }
 over (puts s p c) e =
@@ -47,52 +46,51 @@ onward_goes : {t : Turn} (log text : List ℕ) (f : List ℕ → Written)
     → onward t f ≡ record { output = (f log).output; errors = text ++ (f log).errors }
 onward_goes log text f e = ap (λ (t : Turn). onward t f) (sym e)
 
-first : (k : Kept) (log line log' out output errors : List ℕ) (ls : List (List ℕ)) (r : Said) (used : ℕ) (end : Option ℕ)
+first : (k : Kept) (log line log' out output errors : List ℕ) (ls : List (List ℕ)) (r : Said) (end : Bool)
     → SaidAs k log line log' out r
-    → k.used ≡ Some used
-    → r.kept.used ≡ None
+    → k.drawn ≡ false
+    → r.kept.drawn ≡ true
     → Wrote nothing output errors end
-    → Wrote (drawn_from k.lines (take used log) (line ∷ ls)) (take r.made out ++ output) errors end
+    → Wrote (drawn_from k.lines log (line ∷ ls)) (take r.made out ++ output) errors end
 unfolding drawn_from
-first k log line log' out output errors ls r used end s e p w =
+first k log line log' out output errors ls r end s e p w =
     let q = onward_draws (take r.made out) (λ (after : List ℕ). drawn_from (number_after k.lines) after ls)
-    (ap (λ (o : Option ℕ). turn_by o log' (take r.made out)) (sym p) ∙ s.before used e) in
+    (ap (λ (b : Bool). turn_by b log' (take r.made out)) (sym p) ∙ s.before e) in
     record {
       out = ap (λ (l : List ℕ). take r.made out ++ l) w.out
           ∙ (append-nil (take r.made out) ∙ sym (ap (λ (v : Written). v.output) q));
       err = w.err ∙ sym (ap (λ (v : Written). v.errors) q);
     }
 
-later : (k : Kept) (log line log' out output errors : List ℕ) (ls : List (List ℕ)) (r : Said) (used next : ℕ) (end : Option ℕ)
+later : (k : Kept) (log line log' out output errors : List ℕ) (ls : List (List ℕ)) (r : Said) (end : Bool)
     → SaidAs k log line log' out r
-    → k.used ≡ Some used
-    → r.kept.used ≡ Some next
-    → Wrote (drawn_from r.kept.lines (take next log') ls) output errors end
-    → Wrote (drawn_from k.lines (take used log) (line ∷ ls)) output (take r.made out ++ errors) end
+    → k.drawn ≡ false
+    → r.kept.drawn ≡ false
+    → Wrote (drawn_from r.kept.lines log' ls) output errors end
+    → Wrote (drawn_from k.lines log (line ∷ ls)) output (take r.made out ++ errors) end
 unfolding drawn_from
-later k log line log' out output errors ls r used next end s e p w =
-    let q = onward_goes (take next log') (take r.made out)
+later k log line log' out output errors ls r end s e p w =
+    let q = onward_goes log' (take r.made out)
     (λ (after : List ℕ). drawn_from (number_after k.lines) after ls)
-    (ap (λ (o : Option ℕ). turn_by o log' (take r.made out)) (sym p) ∙ s.before used e) in
-    let v = subst (λ (n : ℕ). Wrote (drawn_from n (take next log') ls) output errors end) s.lines w in
+    (ap (λ (b : Bool). turn_by b log' (take r.made out)) (sym p) ∙ s.before e) in
+    let v = subst (λ (n : ℕ). Wrote (drawn_from n log' ls) output errors end) s.lines w in
     record {
       out = v.out ∙ sym (ap (λ (u : Written). u.output) q);
       err = append_assoc (take r.made out) errors (last_warning end)
           ∙ (ap (λ (l : List ℕ). take r.made out ++ l) v.err ∙ sym (ap (λ (u : Written). u.errors) q));
     }
 
-writes : {k m : Kept} {log output errors : List ℕ} {ls : List (List ℕ)} (used : ℕ)
+writes : {k m : Kept} {log output errors : List ℕ} {ls : List (List ℕ)}
     → Calls k log ls output errors m
-    → k.used ≡ Some used
-    → Wrote (drawn_from k.lines (take used log) ls) output errors m.used
+    → k.drawn ≡ false
+    → Wrote (drawn_from k.lines log ls) output errors m.drawn
 unfolding drawn_from
-writes used none e = record { out = refl; err = rw e }
-writes {k} used (stops h) e = absurd (none-some _ (sym h ∙ e))
-writes {k} {m} {log} used (puts {log' = log'} {line = line} {out = out} {output = output} {errors = errors} {ls = ls} {r = r} s p c) e =
-    first k log line log' out output errors ls r used m.used s e p (over c p)
-writes {k} {m} {log} used
-    (warns {log' = log'} {line = line} {out = out} {output = output} {errors = errors} {ls = ls} {r = r} {used = next} s p c) e =
-    later k log line log' out output errors ls r used next m.used s e p (writes next c p)
+writes none e = record { out = refl; err = rw e }
+writes {k} (stops h) e = absurd (true≢false (sym h ∙ e))
+writes {k} {m} {log} (puts {log' = log'} {line = line} {out = out} {output = output} {errors = errors} {ls = ls} {r = r} s p c) e =
+    first k log line log' out output errors ls r m.drawn s e p (over c p)
+writes {k} {m} {log} (warns {log' = log'} {line = line} {out = out} {output = output} {errors = errors} {ls = ls} {r = r} s p c) e =
+    later k log line log' out output errors ls r m.drawn s e p (writes c p)
 
 -- ---- lines that are cut
 
@@ -120,8 +118,8 @@ cut_lines room h n log (l ∷ ls) =
 -- ---- the claim
 
 pub every_input : EveryInput
-every_input log output errors before last input ls m made room h e c f =
-    let w = writes 0 c refl in
+every_input output errors before last input ls m made room h e c f =
+    let w = writes c refl in
     subst (λ (v : Written). AllWritten v output (errors ++ take made last))
     (ap drawn_all e ∙ cut_lines room h 0 [] (lines input))
     record { output = w.out; errors = ap (λ (l : List ℕ). errors ++ l) f.same ∙ w.err }

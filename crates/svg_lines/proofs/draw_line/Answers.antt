@@ -5,8 +5,8 @@ use Rattle.svg_lines.proofs.Turns.{of_answer}
 use Rattle.svg_lines.proofs.draw_line.Goals as goal
 
 pub returns-then-is_answer : goal.returns-then-is_answer
-returns-then-is_answer c = of_answer c.number_after-lines.ensures c.in-Some.is
+returns-then-is_answer c = of_answer c.number_after-lines.ensures c.if-kept.false
     (sym (c.is_answer.ensures ∙ ap is_answer c.frame_in.ensures)
     ∙ c.if-is_answer.true)
-    c.push_picture-made.ensures c.push_picture-made.auto.out
-    c.used_behind.ensures
+    (rw c.words.ensures.same at c.push_picture-made.ensures) c.push_picture-made.auto.out
+    c.clear.ensures

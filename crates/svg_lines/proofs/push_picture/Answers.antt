@@ -1,14 +1,8 @@
 -- `push_picture`: `svg_picture::picture`'s contract, with `picture_as` (proofs/Turns.antt) for larger buffers.
-use native.Mathlib.Omega.{arith}
-use mathlib.Core.Path.{◌≡◌}
-use lib.ListN.{length, take}
-use lib.Seq.{length-take-le}
+use lib.ListN.{length}
 use Rattle.svg_lines.proofs.Turns.{picture_as}
 use Rattle.svg_lines.proofs.push_picture.Goals as goal
 
 pub returns : goal.returns
-returns c = let a = c.args in
-    let z : length (take a.used a.log.now) ≡ a.used =
-    length-take-le a.used a.log.now c.requires.0 in
-    picture_as (take a.used a.log.now) (length a.places.now) (omega (arith, z, c.requires.1))
-    c.requires.2 c.requires.3 c.picture.ensures
+returns c = picture_as c.args.log.now (length c.args.places.now) c.requires.words
+    c.requires.signs c.requires.room c.picture.ensures

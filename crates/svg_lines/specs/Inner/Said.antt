@@ -1,24 +1,16 @@
 -- What a call of `draw_line` leaves and writes. Only contracts cite this.
-use Rattle.std.specs.Prelude.{ℕ, ◌≤◌, List, [], ◌≡◌, eqb, ltb, length, take, if◌then◌else◌, Option, Some, None}
+use Rattle.std.specs.Prelude.{ℕ, ◌≤◌, Bool, true, false, List, [], ◌≡◌, eqb, length, take, if◌then◌else◌}
 use Rattle.regs.specs.Log.{decode}
 use Rattle.bus.specs.declared.Sign.{Sign}
 use Rattle.bus.specs.Bus.{bus_sequence}
 use Rattle.svg_text.specs.Picture.{svg_text}
-use Rattle.answer_lines.specs.Lines.{number_after, LOG_WORDS}
+use Rattle.answer_lines.specs.Lines.{number_after}
 use Rattle.svg_lines.specs.Drawn.{Turn, draws, goes, turn, nothing_drawn}
 use Rattle.svg_lines.specs.declared.Kept.{Kept}
 use Rattle.svg_lines.specs.declared.Said.{Said}
 
 abbrev pub start_kept : Kept
-start_kept = record { lines = 0; used = Some 0 }
-
--- behind an answer: a picture, or the next call's log
-abbrev pub used_behind : ℕ → Option ℕ
-used_behind made = if ltb 0 made then None else Some 0
-
-abbrev pub UsedFits : Option ℕ → Type 0
-UsedFits None = Unit {0}
-UsedFits (Some used) = used ≤ LOG_WORDS
+start_kept = record { lines = 0; drawn = false }
 
 -- how many signs a log can make, and the room for their picture
 abbrev pub PLACES : ℕ
@@ -34,32 +26,27 @@ picture_of ss = if eqb (length ss) 0 then [] else svg_text (take 256 ss) (length
 abbrev pub log_picture : List ℕ → List ℕ
 log_picture log = picture_of (bus_sequence (decode log))
 
--- the buffers: a line that was cut at its buffer's end is longer than every answer frame, the log has its 8,192
--- entries, and there is room for the signs and for the picture
-pub record Lent (o : Kept) (text : List ℕ) (held : ℕ) (log : List ℕ) (places : List Sign) (out : List ℕ) : Type 0 where
+-- the buffers: a line that was cut at its buffer's end is longer than every answer frame, and there is room for the signs
+-- and for the picture
+pub record Lent (text : List ℕ) (held : ℕ) (places : List Sign) (out : List ℕ) : Type 0 where
   pub cut : 8195 ≤ length text
   pub line : held ≤ length text
-  pub words : length log ≡ LOG_WORDS
-  pub used : UsedFits o.used
   pub signs : PLACES ≤ length places
   pub room : PICTURE_ROOM ≤ length out
 
--- a picture, or the used part of a log and a warning
-abbrev pub turn_by : Option ℕ → List ℕ → List ℕ → Turn
-turn_by None log text = draws text
-turn_by (Some used) log text = goes (take used log) text
+-- a picture, or a log and a warning
+abbrev pub turn_by : Bool → List ℕ → List ℕ → Turn
+turn_by true log text = draws text
+turn_by false log text = goes log text
 
 -- a line before the picture is the line's turn; behind the picture nothing is written any more
 pub record SaidAs (o : Kept) (log line log' out : List ℕ) (r : Said) : Type 0 where
   pub lines : r.kept.lines ≡ number_after o.lines
-  pub before : (used : ℕ)
-      → o.used ≡ Some used
-      → turn_by r.kept.used log' (take r.made out) ≡ turn (number_after o.lines) (take used log) line
-  pub behind : o.used ≡ None → (r.kept.used ≡ None) × (r.made ≡ 0)
+  pub before : o.drawn ≡ false → turn_by r.kept.drawn log' (take r.made out) ≡ turn (number_after o.lines) log line
+  pub behind : o.drawn ≡ true → (r.kept.drawn ≡ true) × (r.made ≡ 0)
   pub made : r.made ≤ length out
-  pub used : UsedFits r.kept.used
 
 -- what is warned at the end of the input
-abbrev pub last_warning : Option ℕ → List ℕ
-last_warning None = []
-last_warning (Some used) = nothing_drawn
+abbrev pub last_warning : Bool → List ℕ
+last_warning true = []
+last_warning false = nothing_drawn

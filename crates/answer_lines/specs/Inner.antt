@@ -1,0 +1,2 @@
+-- Definitions that only the contracts of inner functions cite: no public statement rests on believing them.
+pub mod Words
