@@ -9,7 +9,8 @@ ghost use Rattle.answer_frames.specs.Frames.{is_answer};
 use text_hex::digits::{is_pairs, number};
 
 // An answer frame: a read and a write with offset and value, the
-// two marks, a buffer, an answer's number and detail.
+// two marks, a buffer, an answer's number and detail. The number stays a u32: it is what two
+// digits of a line say, and the type of refusals has no value for each of the 24.
 #[derive(Clone, Copy, PartialEq, Eq)]
 pub enum Frame {
     Read(u32, u32),
@@ -20,6 +21,8 @@ pub enum Frame {
     Answer(u32, u32),
 }
 
+// The kind stays a number in these functions, also where the line comes with it: it is what the line's first two
+// digits say, any of 256, and each match turns into a frame what is a kind and refuses the rest.
 fn mark(kind: u32) -> Option<Frame>
     ensures { result ≡ mark_frame kind }
 {

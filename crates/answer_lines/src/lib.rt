@@ -13,7 +13,8 @@ use answer_frames::frame_in;
 use text_hex::text::Text;
 use text_tables::decimal::push_digits;
 
-// The number of the line behind so many others.
+// The number of the line behind so many others. The library's addition stays in a function of this name: the
+// definitions count lines by `number_after`, and here it is proved once that they are the same.
 pub fn number_after(lines: u64) -> u64
     ensures { result ≡ number_after lines }
 {
@@ -27,6 +28,8 @@ pub fn no_frame(line: &[u8]) -> bool
     line.len() > explain_frames::LONGEST || frame_in(line).is_none()
 }
 
+// The room that is needed stays a requirement, here and below: it is another number for each text, and a
+// text without that room is a text as well.
 fn warn(text: &mut Text, number: u64)
     requires { Room 47 text.old }
     ensures { Added text.old (warning number) 47 text.new }

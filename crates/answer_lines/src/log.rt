@@ -34,7 +34,8 @@ fn put_entry(words: &mut [u32], used: usize, entry: [u32; 2]) -> usize
     used + 2
 }
 
-// The words, and how many of them are used.
+// The words, and how many of them are used. That count stays beside an array, as in any vector of a fixed room:
+// the library's is not among what this project uses, and the model hides it from every contract.
 #[derive(Drop)]
 pub struct Log {
     words: [u32; LOG_WORDS],

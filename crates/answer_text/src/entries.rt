@@ -1,4 +1,5 @@
-// A log and the reply behind it, put into a text.
+// A log and the reply behind it, put into a text. Printing stays functions on a text: Display writes into a
+// Formatter, whose writes may fail, and its texts are no lists of bytes that a contract could name.
 ghost use Rattle.std.specs.Prelude.{◌+◌, ◌*◌, ◌≤◌, length, take};
 ghost use Rattle.regs.specs.Log.{decode};
 ghost use Rattle.text_hex.specs.Print.{entry_text, log_text, reply_text};
@@ -29,7 +30,9 @@ fn push_entry(text: &mut Text, pairs: &Table, e: Entry)
     text.push_word_by(pairs, kind, u32::from(register), value);
 }
 
-// The first n entries of a log, with a table lent.
+// The first n entries of a log, with a table lent. log and n stay two parameters, and the text a third: the
+// drivers' calls answer how many entries of the caller's log they filled. What room is needed depends on n, so
+// it stays a requirement.
 fn push_entries(text: &mut Text, pairs: &Table, log: &[u32], n: usize)
     requires room { Room (13 * n) text.old }
     requires entries { n * 2 ≤ length log.now }

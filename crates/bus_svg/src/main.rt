@@ -26,8 +26,8 @@ const SIGNS: usize = 32768;
 
 const ROOM: usize = 53000;
 
-// What is kept where the lines end, how the input stands then, and whether all was written. That is no
-// `Result` of the other two, which are told of also where a write failed.
+// What is kept where the lines end, how the input stands then, and whether all was written. `written` stays
+// beside them, and this is no `Result` of the other two: they are told of also where a write failed.
 #[derive(Clone, Copy, PartialEq, Eq)]
 struct Stopped {
     kept: Kept,
@@ -74,7 +74,8 @@ fn draw_all(
     Stopped { kept, end, written }
 }
 
-// That nothing was drawn is said at the end of the input only: where it was not read so far, nobody knows.
+// That nothing was drawn is said at the end of the input only: where it was not read so far, nobody knows. The
+// answer stays a number: it is where the text ends, and an empty text ends at 0.
 fn finish(kept: Kept, end: End, out: &mut [u8; ROOM]) -> usize
     ensures { Appended out.old 0
         (if is_ended_at end then last_warning kept.drawn else [])

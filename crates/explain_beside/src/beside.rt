@@ -16,8 +16,8 @@ use explain_frames::{Begin, explain, push_words};
 use regs::fields::{byte_of, has_stop, is_read};
 use text_hex::text::Text;
 
-// START or RESTART, and the address with its direction. That stays the bool which `is_read` and
-// `letter` know: a Direction would be made of it, and turned back for the letter.
+// START or RESTART, and the address with its direction. `read` stays the bool which `is_read` and
+// `letter` know, here and below: a Direction would be made of it, and turned back for the letter.
 fn push_addressed(text: &mut Text, condition: Condition, address: u32, read: bool)
     requires { Room 13 text.old }
     ensures { Added text.old (addressed_text condition address read) 13 text.new }
@@ -38,7 +38,8 @@ fn push_opening(text: &mut Text, condition: Option<Condition>, address: u32, rea
     }
 }
 
-// A written byte, or one read slot.
+// A written byte, or one read slot. The word stays a parameter beside the text that it is put into, here and
+// below: one is the device's and the other the caller's.
 #[tactic(auto, using(text_hex::proofs::Adding::at_most))]
 fn push_data(text: &mut Text, read: bool, w: u32)
     requires { Room 9 text.old }
@@ -61,7 +62,7 @@ fn push_closing(text: &mut Text, last: bool)
     }
 }
 
-// What a word makes of the bus.
+// What a word makes of the bus. The word stays beside the transfer: it is what comes next, and no part of it.
 fn push_piece(text: &mut Text, transfer: Transfer, w: u32)
     requires { Room 31 text.old }
     ensures { Added text.old (signs_text 0 (signs_of transfer.bus transfer.address w)) 31 text.new }
@@ -84,6 +85,7 @@ fn push_spaces(text: &mut Text, column: usize)
     }
 }
 
+// An access with what it put on the bus. It stays no Display: a Formatter's bytes are in no contract.
 fn push_word(text: &mut Text, transfer: Transfer, w: u32)
     requires { Room 16900 text.old }
     ensures { Added text.old (word_line transfer w) 16900 text.new }
@@ -105,8 +107,8 @@ fn word_line(transfer: Transfer, w: u32, out: &mut [u8]) -> usize
     text.at
 }
 
-// A line of an open transfer. Where the buffer has no room its text is empty, so 0 is where it ends.
-#[tactic(auto, using(text_hex::proofs::Appends::nothing, text_hex::proofs::Appends::within), unfolding(crate::specs::Piece::told_of))]
+// A line of an open transfer. The answer stays a number: it is where the text ends, and where the buffer has
+// no room the text is empty and ends at 0. Line and buffer stay apart: one is read, the other written.
 fn explain_after(transfer: Transfer, line: &[u8], out: &mut [u8]) -> usize
     ensures { Appended out.old 0
         (told_of transfer line.now (length out.old))

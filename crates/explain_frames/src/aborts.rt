@@ -46,6 +46,8 @@ impl<'a> Names<'a> {
         }
     }
 
+    // The number of names stays a parameter, at most 17: a register's line names all of them and an answer's
+    // none, and the room that is needed is counted from it.
     fn push_abort(&self, text: &mut Text, n: usize, w: u32)
         requires room { Room (25 * n + 44) text.old }
         requires few { n ≤ 17 }

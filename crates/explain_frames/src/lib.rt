@@ -34,6 +34,8 @@ pub enum Begin {
     Answer,
 }
 
+// The row of the table. It stays `as`: that is what the order of the variants says, and a From would hold
+// the same words.
 fn begin_row(begin: Begin) -> usize
     ensures row { result ≡ begin_row begin }
     ensures in_table { result < 6 }
@@ -41,6 +43,9 @@ fn begin_row(begin: Begin) -> usize
     begin as usize
 }
 
+// In what follows the text stays a parameter beside the words of a frame that are put into it: what a line
+// begins with, offset and word, an answer's number, its detail, or a line. A frame holds them already, and each
+// function is given those that its piece of the line prints.
 fn push_begin(text: &mut Text, begin: Begin)
     requires { Room 12 text.old }
     ensures { Added text.old (cell words 12 (begin_row begin)) 12 text.new }
@@ -103,7 +108,6 @@ fn push_interrupts(text: &mut Text, w: u32)
 }
 
 // The fields of STATUS, and those of TX_ABRT_SOURCE with its causes.
-#[tactic(auto, using(text_hex::proofs::Adding::at_most, text_hex::proofs::Adding::no_text), unfolding(crate::specs::Texts::state_fields, crate::specs::Tables::status_flags))]
 fn push_states(text: &mut Text, offset: u32, w: u32)
     requires { Room 469 text.old }
     ensures { Added text.old (state_fields offset w) 469 text.new }
@@ -123,7 +127,6 @@ fn push_states(text: &mut Text, offset: u32, w: u32)
 }
 
 // The fields of a register's value.
-#[tactic(auto, using(text_hex::proofs::Adding::at_most), unfolding(crate::specs::Texts::fields, crate::specs::Tables::con_flags, crate::specs::Tables::command_flags))]
 fn push_fields(text: &mut Text, offset: u32, w: u32)
     requires { Room 469 text.old }
     ensures { Added text.old (fields offset w) 469 text.new }
@@ -199,6 +202,8 @@ fn push_detail(text: &mut Text, d: u32)
     }
 }
 
+// The name of an answer by its number n. That stays a number here and below, the row of the table: a line may
+// hold any, and what is no row prints nothing. Nor is this a Display: a Formatter's bytes are in no contract.
 fn push_number(text: &mut Text, n: u32)
     requires { Room 40 text.old }
     ensures { Added text.old (cell answers 40 n) 40 text.new }
@@ -225,7 +230,6 @@ fn push_number(text: &mut Text, n: u32)
 }
 
 // The causes behind a detail that is an abort word, that of answer 11 or 23.
-#[tactic(auto, using(text_hex::proofs::Adding::no_text), unfolding(crate::specs::Texts::abort_text, text_tables::specs::Rows::flags))]
 fn push_abort_of(text: &mut Text, n: u32, d: u32)
     requires { Room 44 text.old }
     ensures { Added text.old (abort_text n d) 44 text.new }
@@ -235,6 +239,7 @@ fn push_abort_of(text: &mut Text, n: u32, d: u32)
     }
 }
 
+// An answer's line. It stays no Display, for the same reason.
 fn push_answer(text: &mut Text, n: u32, d: u32)
     requires { Room 512 text.old }
     ensures { Added text.old (answer_text n d) 512 text.new }
@@ -261,9 +266,8 @@ fn push_frame(text: &mut Text, line: &[u8], f: Frame)
     }
 }
 
-// The text of a line, at the start of a buffer that has room
-// for the longest; nothing where the line is no answer frame.
-#[tactic(auto, using(text_hex::proofs::Appends::nothing, text_hex::proofs::Appends::within), unfolding(crate::specs::Texts::explained))]
+// The text of a line, at the start of a buffer that has room for the longest; nothing where the line is no
+// answer frame. The answer stays a number: it is where the text ends, and an empty text ends at 0.
 pub fn explain(line: &[u8], out: &mut [u8]) -> usize
     ensures { Appended out.old 0
         (explained line.now (length out.old))

@@ -4,7 +4,7 @@
 
 ghost use Rattle.std.specs.Prelude.{◌≡◌, ◌++◌, ◌+◌, ◌≤◌, length, take};
 ghost use Rattle.text_hex.specs.Appended.{Appended};
-ghost use Rattle.answer_lines.specs.Lines.{number_after, LOG_WORDS};
+ghost use Rattle.answer_lines.specs.Lines.{number_after};
 ghost use Rattle.explain_lines.specs.Printed.{own_text, bus_text, LINE_ROOM};
 ghost use Rattle.explain_lines.specs.Inner.Said.{closed_call, start_call, PLACES, BUS_ROOM, Lent, SaidAs};
 
@@ -23,7 +23,8 @@ pub struct Call {
     pub transfer: Option<Transfer>,
 }
 
-// What is kept behind a line, and how much of the buffer its text fills.
+// What is kept behind a line, and how much of the buffer its text fills. That stays a number: the buffer is the
+// caller's, who has it, and a slice of it here would lend it beyond the call.
 #[derive(Clone, Copy)]
 pub struct Said {
     pub call: Call,
@@ -61,9 +62,9 @@ impl Call {
         tell(self.transfer, line, out)
     }
 
-    // An answer's text behind the bus line of its call.
-    fn push_answer(self, line: &[u8], log: &[u32], places: &mut [Sign], out: &mut [u8]) -> usize
-        requires words { length log.now ≤ LOG_WORDS }
+    // An answer's text behind the bus line of its call. The places stay a slice, here and below, of at least as
+    // many signs as a log can make: an array would ask callers for exactly as many.
+    fn push_answer(self, line: &[u8], log: &Log, places: &mut [Sign], out: &mut [u8]) -> usize
         requires signs { PLACES ≤ length places.old }
         requires room { BUS_ROOM + LINE_ROOM ≤ length out.old }
         ensures { Appended out.old 0
@@ -76,18 +77,17 @@ impl Call {
 }
 
 // The bus line of a log, in the first bytes of the buffer.
-fn push_bus(log: &[u32], places: &mut [Sign], out: &mut [u8]) -> usize
-    requires words { length log.now ≤ LOG_WORDS }
+fn push_bus(log: &Log, places: &mut [Sign], out: &mut [u8]) -> usize
     requires signs { PLACES ≤ length places.old }
     requires room { BUS_ROOM ≤ length out.old }
     ensures { Appended out.old 0 (bus_text log.now) BUS_ROOM out.new result }
 {
-    bus_line(log, places, &mut out[..ROOM])
+    bus_line(log.words(), places, &mut out[..ROOM])
 }
 
 // The whole text of a line, which fills `held` bytes of its buffer: before an answer its call's
-// bus line, and with it the call ends. The buffer is lent whole because its length shows that a
-// line that was cut is longer than every answer frame.
+// bus line, and with it the call ends. text and held stay two parameters: the buffer is lent whole because its
+// length shows that a line that was cut is longer than every answer frame.
 pub fn explain_line(
     call: Call,
     text: &[u8],
@@ -104,7 +104,7 @@ pub fn explain_line(
     let line = &text[..held];
     let lines = number_after(call.lines);
     if is_answer(frame_in(line)) {
-        let made = call.push_answer(line, log.words(), places, out);
+        let made = call.push_answer(line, log, places, out);
         log.clear();
         let call = Call::closed(lines);
         return Said { call, made };

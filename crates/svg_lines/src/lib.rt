@@ -4,7 +4,6 @@
 
 ghost use Rattle.std.specs.Prelude.{◌≡◌, ◌≤◌, length, take};
 ghost use Rattle.text_hex.specs.Appended.{Appended};
-ghost use Rattle.answer_lines.specs.Lines.{LOG_WORDS};
 ghost use Rattle.svg_lines.specs.Drawn.{warned};
 ghost use Rattle.svg_lines.specs.Inner.Said.{start_kept, PLACES, PICTURE_ROOM, log_picture};
 ghost use Rattle.svg_lines.specs.Inner.Said.{Lent, SaidAs, last_warning};
@@ -15,7 +14,8 @@ use answer_lines::{no_frame, number_after, push_warning};
 use bus::Sign;
 use text_hex::text::Text;
 
-// How many lines came, and whether the picture was drawn.
+// How many lines came, and whether the picture was drawn. That stays a bool: lines are counted behind the
+// picture too, so no value depends on it.
 #[derive(Clone, Copy, PartialEq, Eq)]
 pub struct Kept {
     pub lines: u64,
@@ -23,7 +23,8 @@ pub struct Kept {
 }
 
 // What is kept behind a line, and how much of the buffer its text fills. That is the picture,
-// for standard output, where the picture was drawn, and else for standard error.
+// for standard output, where the picture was drawn, and else for standard error. How much stays a number: the
+// buffer is the caller's, who has it, and a slice of it here would lend it beyond the call.
 #[derive(Clone, Copy, PartialEq, Eq)]
 pub struct Said {
     pub kept: Kept,
@@ -41,18 +42,18 @@ pub fn start() -> Kept
 }
 
 // The picture of a log.
-fn push_picture(log: &[u32], places: &mut [Sign], out: &mut [u8]) -> usize
-    requires words { length log.now ≤ LOG_WORDS }
+fn push_picture(log: &Log, places: &mut [Sign], out: &mut [u8]) -> usize
     requires signs { PLACES ≤ length places.old }
     requires room { PICTURE_ROOM ≤ length out.old }
     ensures { Appended out.old 0
         (log_picture log.now)
         (length out.old) out.new result }
 {
-    svg_picture::picture(log, places, out)
+    svg_picture::picture(log.words(), places, out)
 }
 
-// That a line is no answer frame, or nothing.
+// That a line is no answer frame, or nothing. The answer stays a number: it is where the text ends, and an
+// empty text ends at 0.
 fn push_warned(number: u64, line: &[u8], out: &mut [u8]) -> usize
     requires { 47 ≤ length out.old }
     ensures { Appended out.old 0 (warned number line.now) 47 out.new
@@ -65,8 +66,9 @@ fn push_warned(number: u64, line: &[u8], out: &mut [u8]) -> usize
     }
 }
 
-// What is written of a line, which fills `held` bytes of its buffer: at an
-// answer its call is drawn, and ends; behind the picture there is nothing more.
+// What is written of a line, which fills `held` bytes of its buffer: at an answer its call is drawn, and ends;
+// behind the picture there is nothing more. text and held stay two parameters: the buffer is lent whole because
+// its length shows that a line that was cut is longer than every answer frame.
 pub fn draw_line(
     kept: Kept,
     text: &[u8],
@@ -87,7 +89,7 @@ pub fn draw_line(
     }
     let line = &text[..held];
     if is_answer(frame_in(line)) {
-        let made = push_picture(log.words(), places, out);
+        let made = push_picture(log, places, out);
         log.clear();
         let drawn = made > 0;
         let kept = Kept { lines, drawn };

@@ -1,4 +1,5 @@
-// Numbers in capital hexadecimal digits.
+// Numbers in capital hexadecimal digits. Reading and writing digits stays functions of our own: `from_str_radix`
+// takes small letters and signs too, and Display writes into a Formatter, which no contract says the bytes of.
 ghost use Rattle.std.specs.Prelude.{◌≡◌, true, ◌+◌, ◌/◌, ◌<◌, ◌≤◌, length, ltb, get_or, set};
 ghost use Rattle.text_hex.specs.Text.{digit_of, digit_in, char_of};
 ghost use Rattle.text_hex.specs.Appended.{NumberAs};
@@ -23,7 +24,8 @@ pub fn digit(c: u8) -> Option<u8>
     }
 }
 
-// The number in n bytes of a line from `at` on, if they are digits.
+// The number in n bytes of a line from `at` on, if they are digits. The place stays beside the line: the
+// definition counts the digits of a frame from the start of its line, and so do all who call this.
 pub fn number(line: &[u8], at: usize, n: usize) -> Option<u32>
     requires within { at + n ≤ length line.now }
     requires few { n ≤ 8 }
@@ -84,7 +86,8 @@ pub fn put<T: Copy>(items: &mut [T], at: usize, v: T)
     }
 }
 
-// The bytes that pairs of digits write, put at `at` of a lent buffer where it has room for them.
+// The bytes that pairs of digits write, put at `at` of a lent buffer where it has room for them. The place
+// stays beside the buffer: a slice from `at` on would have to be asked for where there is no room either.
 pub fn put_bytes(ds: &[u8], bytes: &mut [u8], at: usize)
     requires digits { whole_pairs ds.now ≡ true }
     requires few { at ≤ 4096 }

@@ -12,6 +12,7 @@ pub struct Pair {
     pub low: u8,
 }
 
+// Writing a byte's digits stays a trait of our own: Display could not take them from a table.
 pub trait BytePairs {
     // The digits of the lowest 8 bits.
     fn pair(&self, n: u32) -> Pair

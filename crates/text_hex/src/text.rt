@@ -6,7 +6,8 @@ ghost use Rattle.text_hex.specs.Added.{Room, Added};
 
 use super::hex::{BytePairs, Computed};
 
-// A lent buffer and where the text in it ends so far.
+// A lent buffer and where the text in it ends so far. The room for what comes next stays a requirement of each
+// method, and no fact of the type: it is another number for each piece, and less of it with each that is put.
 #[derive(Drop)]
 pub struct Text<'a> {
     pub out: &'a mut [u8],
@@ -14,7 +15,7 @@ pub struct Text<'a> {
 }
 
 impl<'a> Text<'a> {
-    // Text from `at` on.
+    // Text from `at` on. Here buffer and place stay two parameters: this makes the one value of them.
     pub fn new(out: &'a mut [u8], at: usize) -> Text<'a>
         ensures same_reference { result.out.ghost_name ≡ out.entry.ghost_name }
         ensures bytes { result.out.now ≡ out.old }
@@ -63,7 +64,8 @@ impl<'a> Text<'a> {
         self.push_hex2_by(pairs, low % 256);
     }
 
-    // A number in 2 digits.
+    // A number in 2 digits. This and the one of 8 stay apart: a const parameter could be any number of digits, and
+    // only these two have a definition.
     pub fn push_hex2(&mut self, n: u32)
         requires { Room 2 self.old }
         ensures { Added self.old (hex2 n) 2 self.new }
@@ -79,7 +81,8 @@ impl<'a> Text<'a> {
         self.push_hex8_by(&Computed, n);
     }
 
-    // A frame that is its kind alone.
+    // A frame that is its kind alone. The kind stays a number, here and in `push_word_by`: they print the two
+    // digits of any, and an enum would turn away some that callers may give now.
     pub fn push_plain(&mut self, kind: u32)
         requires { Room 13 self.old }
         ensures { Added self.old (plain_frame kind) 13 self.new }
@@ -118,7 +121,7 @@ impl<'a> Text<'a> {
         }
     }
 
-    // An answer's number and its detail.
+    // An answer's number and its detail. The number stays a u32: 20 and 21 are the replay's own and no Reply's.
     #[tactic(auto, unfolding(crate::specs::Print::answer_text))]
     pub fn push_answer(&mut self, number: u32, detail: u32)
         requires { Room 13 self.old }

@@ -1,4 +1,5 @@
-// Standard input in whole lines. Bytes are read in chunks of any size; a line is handed out in a lent buffer.
+// Standard input in whole lines. Bytes are read in chunks of any size; a line is handed out in a
+// lent buffer.
 #![tactic(auto)]
 
 pub mod reads; // single reads
@@ -12,7 +13,8 @@ ghost use Rattle.text_stdin.specs.declared.reads.End.TheVariants.{Open};
 use reads::{End, read_some};
 
 // What was read and not handed out yet stands in the chunk from `at` up to
-// `filled`. So many lines were handed out, and how the input stands.
+// `filled`. So many lines were handed out, and how the input stands. The two stay numbers beside the chunk: a
+// Source is copied from line to line, and one that lends the chunk could not be.
 #[derive(Clone, Copy, PartialEq, Eq)]
 pub struct Source {
     pub at: usize,
@@ -22,7 +24,8 @@ pub struct Source {
 }
 
 // What is left behind a line, how many bytes of the buffer are filled, and the same as the length
-// of the line, if there was one: `filled` also counts what came of a line whose rest did not come.
+// of the line, if there was one: `filled` also counts what came of a line whose rest did not come. They stay
+// numbers: the line's buffer is the caller's, and is filled again by the next call.
 // A line's number is the source's count of lines.
 #[derive(Clone, Copy, PartialEq, Eq)]
 pub struct Line {
@@ -31,8 +34,9 @@ pub struct Line {
     pub held: Option<usize>,
 }
 
-// How far a chunk was read, how much of the buffer is filled, and whether the line has ended. That is
-// no Option of the others, which hold also where the line goes on.
+// How far a chunk was read, how much of the buffer is filled, and whether the line has ended. `ended` stays a
+// bool and this is no Option of the others, which hold also where the line goes on; they are numbers as those of
+// the Source that `next_line` makes of them, which takes these two over and counts the line itself.
 #[derive(Clone, Copy, PartialEq, Eq)]
 struct Part {
     at: usize,
@@ -56,8 +60,9 @@ pub fn start() -> Source
     }
 }
 
-// Copies what stands in the chunk up to LF behind the `held`
-// bytes of the line. What is past the buffer's end is dropped.
+// Copies what stands in the chunk up to LF behind the `held` bytes of the line. What is past the buffer's end is
+// dropped. at, filled and held stay beside their buffers: what is left is told by its place in the chunk, which a
+// slice would count anew, and the bytes before `held` are a part of the line that came before.
 fn take(chunk: &[u8], at: usize, filled: usize, held: usize, line: &mut [u8]) -> Part
     requires { (at ≤ filled)
         × (filled ≤ length chunk.now)

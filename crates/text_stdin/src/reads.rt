@@ -15,7 +15,8 @@ pub enum End {
     OutOfTurns,
 }
 
-// So many bytes stand at the start of the chunk, and how the input stands behind them.
+// So many bytes stand at the start of the chunk, and how the input stands behind them. The count stays beside
+// the end: `next_line` goes on with both, and a Result would say a second time that no bytes came with an end.
 #[derive(Clone, Copy, PartialEq, Eq)]
 pub struct Got {
     pub count: usize,

@@ -5,7 +5,8 @@ ghost use Rattle.text_tables.specs.Decimal.{digits};
 
 use text_hex::text::Text;
 
-// The character of a digit.
+// The character of a digit. It stays a function: `char::from_digit` answers an Option of a char, which would
+// have to be taken apart to the byte.
 fn digit(d: u64) -> u8
     requires { d < 10 }
     ensures { result ≡ d + 48 }
@@ -13,7 +14,9 @@ fn digit(d: u64) -> u8
     (d + 48) as u8
 }
 
-// The last k digits at most: those of the tenth first, then the one that is left over.
+// The last k digits at most: those of the tenth first, then the one that is left over. This stays a recursion:
+// a loop makes the last digit first, and would need a buffer to turn them round. Display is no way: its
+// Formatter's bytes are in no contract.
 pub fn push_digits(text: &mut Text, k: usize, n: u64)
     requires { Room k text.old }
     ensures { Added text.old (digits k n) k text.new }

@@ -17,7 +17,8 @@ fn push_until_dot(text: &mut Text, letters: &[u8])
     }
 }
 
-// The text of a row: it ends at a dot.
+// The text of a row: it ends at a dot. The table, the width and the row stay apart, as the number of flags does
+// below: the tables are byte strings, one row a line, and an array of arrays would say the same in another literal.
 pub fn push_cell(text: &mut Text, table: &[u8], width: usize, row: usize)
     requires room { Room width text.old }
     requires in_table { row * width + width ≤ length table.now }

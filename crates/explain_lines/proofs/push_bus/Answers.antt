@@ -6,7 +6,7 @@ use Rattle.explain_lines.proofs.Rooms.{in_front}
 use Rattle.explain_lines.proofs.push_bus.Goals as goal
 
 pub returns : goal.returns
-returns c = let a = c.args in
-    in_front a.log.now (length a.places.now) BUS_ROOM
-    c.requires.words c.requires.room c.requires.signs refl
-    c.bus_line.ensures c.bus_line.auto.out
+returns c = let w = c.words in
+    rw (← w.ensures.same) (in_front w.result.now (length c.args.places.now) BUS_ROOM
+    w.ensures.few c.requires.room c.requires.signs refl
+    c.bus_line.ensures c.bus_line.auto.out)

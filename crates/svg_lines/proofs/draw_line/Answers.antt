@@ -8,5 +8,5 @@ pub returns-then-is_answer : goal.returns-then-is_answer
 returns-then-is_answer c = of_answer c.number_after-lines.ensures c.if-kept.false
     (sym (c.is_answer.ensures ∙ ap is_answer c.frame_in.ensures)
     ∙ c.if-is_answer.true)
-    (rw c.words.ensures.same at c.push_picture-made.ensures) c.push_picture-made.auto.out
+    c.push_picture-made.ensures c.push_picture-made.auto.out
     c.clear.ensures

@@ -4,5 +4,5 @@ use Rattle.svg_lines.proofs.Turns.{picture_as}
 use Rattle.svg_lines.proofs.push_picture.Goals as goal
 
 pub returns : goal.returns
-returns c = picture_as c.args.log.now (length c.args.places.now) c.requires.words
-    c.requires.signs c.requires.room c.picture.ensures
+returns c = rw (← c.words.ensures.same) (picture_as c.words.result.now (length c.args.places.now) c.words.ensures.few
+    c.requires.signs c.requires.room c.picture.ensures)
