@@ -52,6 +52,7 @@ pub fn push_run(text: &mut Text, run: u32)
 
 // A sign alone; a read slot is a run of one. It stays a function over a text, not a Display: no clause
 // says what a Formatter was given, and texts here are proved byte for byte.
+// `text` and `sign` stay two parameters: a text is lent for many signs.
 #[tactic(auto, using(text_hex::proofs::Adding::at_most))]
 pub fn push_sign(text: &mut Text, sign: Sign)
     requires { Room 9 text.old }
@@ -73,6 +74,7 @@ pub const ROOM: usize = 294921;
 // The line of a log, in a buffer lent for it; its sequence is put into another. Says where the line ends.
 // That stays a number, 0 where there is no line: an empty text ends there. It stays beside `picture` of
 // `svg_picture`: what the two share is `Sequence::of`, and the rest is the text and the room of each.
+// `places` and `out` stay two buffers: the one holds signs, the other bytes.
 pub fn bus_line(log: &[u32], places: &mut [Sign], out: &mut [u8]) -> usize
     ensures { Appended out.old 0
         (bus_line log.now (length places.old) (length out.old))

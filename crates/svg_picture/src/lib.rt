@@ -97,6 +97,7 @@ impl Drawn<'_> {
 // The picture of a log, in a buffer lent for it; its sequence is put into another. Says how long the text
 // is. That stays a number, 0 where the log puts nothing on the bus: an empty text ends there. `log` and
 // `places` stay two parameters, as in `Sequence::of`.
+// `places` and `out` stay two buffers: the one holds signs, the other bytes.
 #[tactic(auto, using(text_hex::proofs::Appends::nothing), unfolding(svg_text::specs::Picture::picture))]
 pub fn picture(log: &[u32], places: &mut [Sign], out: &mut [u8]) -> usize
     ensures { Appended out.old 0
