@@ -13,7 +13,9 @@ use regs::access::Ran;
 pub use slave::SlaveState;
 pub use slave_run::{Left, Request};
 
-// Any call: the state is lent, and updated there.
+// Any call: the state is lent, and updated there. `request`, `state`, `fill`, `bytes`, `buffer`, `readings`
+// and `log` stay parameters of their own in this file: the Rust has the first of them so, and C lends
+// each slice by itself.
 pub fn call(
     s: &mut SlaveState,
     request: Request,

@@ -9,7 +9,8 @@ ghost use Rattle.regs.specs.Steps.{stored_in};
 use super::answers::{Answer, Reply};
 use super::fields::byte_of;
 
-// What a machine does next: read a register, write it, make a mark, or nothing more.
+// What a machine does next: read a register, write it, make a mark, or nothing more. Registers and
+// marks stay numbers here and in `Entry`: C performs the accesses and reads the log by these numbers.
 #[derive(Clone, Copy)]
 pub enum Next {
     Read(u8),
@@ -22,6 +23,7 @@ pub enum Next {
 pub type Store = Option<(usize, u8)>;
 
 // An entry of the log: a register's offset with the word read or written, or a mark.
+// Offset and mark stay numbers, as in `Next`.
 #[derive(Clone, Copy)]
 pub enum Entry {
     Read(u8, u32),
@@ -29,7 +31,8 @@ pub enum Entry {
     Marked(u8),
 }
 
-// What a run leaves beside the log, the buffer and the state.
+// What a run leaves beside the log, the buffer and the state. How many entries and readings it used
+// stay numbers beside the reply: log and readings are the caller's, who is told them however it ended.
 #[derive(Clone, Copy)]
 pub struct Ran {
     pub reply: Reply,
@@ -99,7 +102,8 @@ impl<'a> Recording<'a> {
         }
     }
 
-    // What a run leaves that ends with a reply here.
+    // What a run leaves that ends with a reply here. It stays a method, and no From: the reply is no part
+    // of `self`.
     pub fn ran(&self, reply: Reply) -> Ran
         ensures reply { result.reply ≡ reply }
         ensures entries { result.entries ≡ self.now.entries }
@@ -138,7 +142,8 @@ impl<'a> Recording<'a> {
         }
     }
 
-    // Puts an entry behind those that there are.
+    // Puts an entry behind those that there are. The room for it stays a clause of this and of the three
+    // below: callers ask once for all the entries of a byte or of a poll (`regs_runs::has`).
     fn put(&mut self, head: u32, value: u32)
         requires { self.old.entries < room_of self.old }
         ensures { Enters self.old head value self.new }
@@ -149,7 +154,8 @@ impl<'a> Recording<'a> {
         self.entries += 1;
     }
 
-    // A register was read.
+    // A register was read. The three stay beside each other: with one function of an `Entry` every
+    // caller would write `put(Entry::Read(register, v))`, which is longer and says no more.
     pub fn put_read(&mut self, register: u8, v: u32)
         requires { self.old.entries < room_of self.old }
         ensures { Enters self.old (0x100 + register) v self.new }
@@ -199,7 +205,8 @@ pub fn keep(buffer: &mut [u8], store: Store)
     }
 }
 
-// The entry that two words of a log stand for.
+// The entry that two words of a log stand for. It stays a function of the two: From would want them as
+// a tuple, and its callers have them apart.
 pub fn entry_of(head: u32, value: u32) -> Entry
     ensures { result ≡ entry head value }
 {

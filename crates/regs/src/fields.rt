@@ -1,6 +1,6 @@
-// The fields of the controller's words, put together and taken apart by shifts and masks. Each field keeps a
-// function of its own over `is_set` or `with_field`: with the bit as an argument in its place, as `is_set(w, 9)`,
-// a caller would name a number where it now names the field, and STOP and STOP_DET are both bit 9.
+// The fields of the controller's words, put together and taken apart by shifts and masks. Each field stays
+// a function of its own over `is_set` or `with_field`: with the bit as an argument, as `is_set(w, 9)`, a
+// caller would name a number where it now names the field, and STOP and STOP_DET are both bit 9.
 ghost use Rattle.std.specs.Prelude.{◌≡◌, ◌+◌, ◌<◌, ◌≤◌, ◌^◌};
 ghost use Rattle.regs.specs.Fields.{bit, set_field, command_word, dat, cmd, stop, restart};
 ghost use Rattle.regs.specs.Fields.{first_data_byte, tx_empty, rd_req, tx_abrt, rx_done, stop_det};
@@ -35,7 +35,8 @@ pub fn word_of(byte: u8, read: bool, stop: bool, restart: bool) -> u32
     u32::from(byte) | (u32::from(read) << 8) | (u32::from(stop) << 9) | (u32::from(restart) << 10)
 }
 
-// The byte of a word written to DATA_CMD or read there.
+// The byte of a word written to DATA_CMD or read there. This and `level_of` stay two functions: each is
+// one mask, and with the mask as an argument a caller would name a number.
 pub fn byte_of(w: u32) -> u8
     ensures { result ≡ dat w }
 {

@@ -15,6 +15,7 @@ pub const OFFSETS: [u8; 25] = [
     0x6C, 0x70, 0x74, 0x78, 0x7C, 0x80, 0x98, 0xA0, 0xA8,
 ];
 
+// The registers stay numbers: C performs the accesses by their offsets.
 pub const CON: u8 = OFFSETS[0];
 
 pub const TAR: u8 = OFFSETS[1];
@@ -107,8 +108,8 @@ pub fn offset(row: usize) -> Option<u8>
     }
 }
 
-// The marks: a poll that is not done, and a reset of the block. They and the registers stay numbers, since the
-// log's words and the accesses that a caller in C performs hold them as numbers.
+// The marks: a poll that is not done, and a reset of the block. They and the registers stay numbers,
+// since the log's words and the accesses that a caller in C performs hold them as numbers.
 pub const PENDING: u8 = 0;
 
 pub const BLOCK_RESET: u8 = 1;

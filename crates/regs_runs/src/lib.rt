@@ -25,7 +25,8 @@ pub fn has(recording: &Recording, readings: usize, entries: usize) -> bool
         && fits(recording.entries, entries, recording.log.len() / 2)
 }
 
-// Reads a register, where a reading is left and the log has room.
+// Reads a register, where a reading is left and the log has room. The room stays a clause of this and of
+// `put`: their callers have asked for all the entries of a round or of a poll at once.
 pub fn read(recording: &mut Recording, register: u8) -> u32
     requires { (recording.old.used < length recording.old.readings.now)
         × (recording.old.entries < room_of recording.old) }
@@ -37,7 +38,8 @@ pub fn read(recording: &mut Recording, register: u8) -> u32
     v
 }
 
-// The reading that is so many ahead, 0 where there is none.
+// The reading that is so many ahead, 0 where there is none: it stays a word in place of an Option,
+// since `poll` makes nothing of a poll whose readings are not all there.
 pub fn ahead(recording: &Recording, n: usize) -> u32
     ensures { result ≡ get_or recording.now.readings.now (recording.now.used + n) 0 }
 {

@@ -12,7 +12,8 @@ use slave_listen::ListenPoint;
 use slave_respond::{Job, RespondPoint, Response};
 use slave_steps::{Point, Slave};
 
-// In `listen`, with no byte pending.
+// In `listen`, with no byte pending. `s`, `bytes`, `recording` and `buffer` stay apart: the slave goes by
+// value from step to step, and the three others are lent to the run by its caller.
 fn listen_from(
     s: Slave,
     point: ListenPoint,
@@ -43,7 +44,8 @@ fn listen_from(
     }
 }
 
-// In a response, at a poll: from the byte that is next to the one that is next then.
+// In a response, at a poll: from the byte that is next to the one that is next then. The index `at` stays
+// beside `bytes`: it is a part of the point that the response is at.
 fn respond_from(s: Slave, job: Job, at: u16, bytes: &[u8], recording: &mut Recording) -> u16
     requires at { s.point ≡ Point.Responding (response job (RespondPoint.RawIntrStat at)) }
     ensures { ForAny

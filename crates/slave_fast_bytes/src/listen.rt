@@ -76,7 +76,8 @@ impl Message {
         false
     }
 
-    // Byte after byte and poll after poll, where the places are within the buffer.
+    // Byte after byte and poll after poll, where the places are within the buffer. It stays a `while`: each
+    // of the two looks at what the one before it left.
     pub fn burst(&mut self, recording: &mut Recording, buffer: &mut [u8])
         ensures { Drains self.old recording.old buffer.old self.new recording.new buffer.new }
     {

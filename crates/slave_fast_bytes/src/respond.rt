@@ -9,14 +9,16 @@ use regs::fields::has_tx_abrt;
 use regs_runs::has;
 use slave_respond::chunk_end;
 
-// The bytes of a chunk.
+// The bytes of a chunk. `bytes`, `recording` and the indices `from`, `i` and `count` stay apart: two things
+// that are lent for different times, and places in a response that change from chunk to chunk.
 fn send(from: u16, end: u16, bytes: &[u8], recording: &mut Recording)
     requires some { from < end }
     requires held { end ≤ length bytes.now }
     requires readings { recording.old.used + (end - from) ≤ length recording.old.readings.now }
     requires room { recording.old.entries + (end - from) * 2 ≤ room_of recording.old }
     ensures sent { ForAny
-        (λ (count : ℕ). Responds count bytes.now (ClrRdReq from end) recording.old (IntrMask end) recording.new) }
+        (λ (count : ℕ). Responds count bytes.now (ClrRdReq from end) recording.old
+        (IntrMask end) recording.new) }
     ensures entries { recording.new.entries ≡ recording.old.entries + (end - from) * 2 }
 {
     for i in from..end {
@@ -45,7 +47,8 @@ fn planned(i: u16, count: u16, recording: &Recording) -> Option<u16>
     Some(end)
 }
 
-// Chunk after chunk, where the bytes are within the buffer; the byte that is next then.
+// Chunk after chunk, where the bytes are within the buffer; the byte that is next then. It stays a `while
+// let` that sets i: whether a next chunk leads straight on is known only behind the one before it.
 pub fn burst(from: u16, count: u16, bytes: &[u8], recording: &mut Recording) -> u16
     ensures { Responds count bytes.now (RawIntrStat from) recording.old (RawIntrStat result) recording.new }
 {

@@ -29,7 +29,9 @@ fn idle(recording: &mut Recording) -> bool
     poll(recording, is_idle(stat), 1, &entries)
 }
 
-// Of a response whose bytes are all sent.
+// Of a response whose bytes are all sent. This and `listen` stay two, as do the waits of the master: each
+// names its own registers, and `regs_runs::poll` is what they share. The loop stays a `while`: a poll
+// is counted by the log that it fills, and not by an iterator.
 pub fn respond(recording: &mut Recording)
     ensures { Idles recording.old recording.new }
 {

@@ -6,6 +6,8 @@ ghost use Rattle.slave_listen.specs.Inner.Machine.{after_data};
 use super::{ListenPoint, Listened, Poll};
 use regs::fields;
 
+// `offset`, `pending` and `v` stay apart in this file: a place of the point, what the state keeps, and the
+// word that the access read.
 pub fn after_status(stat: u32, offset: u16, v: u32) -> ListenPoint
     ensures { result ≡ after_status stat offset v }
 {

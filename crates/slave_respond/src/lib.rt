@@ -70,6 +70,8 @@ impl Job {
         }
     }
 
+    // Past the end, 0 is sent. `bytes` and `i` stay two: the index is a part of the point, and the bytes
+    // are lent.
     fn byte_at(self, bytes: &[u8], i: u16) -> u32
         ensures { result ≡ byte_at self bytes.now i }
     {

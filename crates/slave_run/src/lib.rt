@@ -32,7 +32,8 @@ pub struct Left {
 }
 
 // The steps from a point to the end, a burst and an access at a time: `ran` is made of
-// the machine's next access and its advance, so a run is what stepping by hand does.
+// the machine's next access and its advance, so a run is what stepping by hand does. It stays a `loop`:
+// only the access tells whether the run ends. `readings`, `log`, `bytes` and `buffer` stay apart, as lent.
 pub fn run(from: Slave, bytes: &[u8], readings: &[u32], log: &mut [u32], buffer: &mut [u8]) -> Left
     ensures { final result.ran.reply result.ran.entries result.ran.used log.new
         buffer.new result.state

@@ -90,7 +90,8 @@ impl Slave {
         }
     }
 
-    // `listen`, with a buffer so long.
+    // `listen`, with a buffer so long. `state` and `length` stay two parameters of the starts: the state is
+    // the driver's, the length that of what this call lends, and the `Slave` that is made holds both.
     pub fn start_listen(state: SlaveState, length: usize) -> Slave
         ensures { result ≡ start_listen state length }
     {

@@ -9,6 +9,8 @@ use regs::access::Recording;
 use transfer::{FillPoint, Point, ReadPoint, RoundPoint, Transfer, WritePoint};
 use transfer_fast_blocking::{read_blocking, write_blocking};
 
+// `t`, `bytes`, `recording` and `buffer` stay apart: the transfer goes by value from step to step, and
+// the three others are lent to the run by its caller.
 // A burst of whole bytes or rounds, if one begins here, and where it leads: to a point, or to the
 // next operation.
 fn burst_from(

@@ -47,6 +47,9 @@ fn byte(t: Transfer, i: u16, recording: &mut Recording, buffer: &mut [u8]) -> bo
 }
 
 // Byte after byte from one on, up to the one that is next; the last one is the machine's.
+// This stays beside the burst of `write_blocking` and those of the async operations: they share four lines,
+// and a closure for the byte would have to promise all that `byte` does, over the lent buffer.
+// `t`, `from`, `i` and `recording` stay apart: a transfer and an index by value, and what is lent.
 pub fn burst(t: Transfer, from: u16, recording: &mut Recording, buffer: &mut [u8]) -> u16
     ensures { ForAny
         (λ (bytes : List ℕ). Bursts t bytes recording.old buffer.old (ReadBlocking (Room from))

@@ -45,6 +45,8 @@ fn byte(t: Transfer, i: u16, bytes: &[u8], recording: &mut Recording) -> bool
 }
 
 // Byte after byte from one on, up to the one that is next; the last one is the machine's.
+// This stays beside the burst of `read_blocking`, for the reason that is told there. `t`, `i`, `from`,
+// `bytes` and `recording` stay apart too: the slice and the recording are lent for different times.
 pub fn burst(t: Transfer, from: u16, bytes: &[u8], recording: &mut Recording) -> u16
     ensures { ForAny
         (λ (buffer : List ℕ). Bursts t bytes.now recording.old buffer (WriteBlocking (Send from))

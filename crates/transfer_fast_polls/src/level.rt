@@ -10,6 +10,7 @@ use regs::access::{Entry, Recording};
 use regs::fields::level_of;
 use regs_runs::ahead;
 
+// `filled` and `source` stay two words: they are the readings of two registers.
 fn is_empty(filled: u32, source: u32) -> bool
     ensures { result ≡ no_byte filled source }
 {

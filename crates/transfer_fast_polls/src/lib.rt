@@ -30,7 +30,8 @@ fn poll(p: Point, recording: &mut Recording) -> bool
     }
 }
 
-// The polls at a point until one finds something.
+// The polls at a point until one finds something. It stays a `while`: each poll looks at the recording
+// as the one before it left it, so there is nothing to iterate over.
 pub fn polls(p: Point, recording: &mut Recording)
     ensures { Stays p recording.old recording.new }
 {

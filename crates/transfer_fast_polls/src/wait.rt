@@ -16,13 +16,15 @@ use regs::fields::{
 };
 use regs_runs::{ahead, poll};
 
+// `filled` and `source` stay two words: they are the readings of two registers.
 fn is_too_few(batch: u16, filled: u32, source: u32) -> bool
     ensures { result ≡ too_few batch filled source }
 {
     ((level_of(filled) as u16) < batch) & (source == 0)
 }
 
-// RXFLR has not reached the words of the round.
+// RXFLR has not reached the words of the round. The three waits stay three functions: each names its own
+// registers, threshold and mask bit, and `regs_runs::poll` is what they share.
 pub fn batch(batch: u16, recording: &mut Recording) -> bool
     ensures stays { ForAny
         (λ (x : Round). x.batch ≡ batch → Stays (ReadAsync (Level x)) recording.old

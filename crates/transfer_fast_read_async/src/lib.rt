@@ -120,7 +120,9 @@ fn one_round(
     }
 }
 
-// Round after round from one on, up to the one that is next; the last one is the machine's.
+// Round after round from one on, up to the one that is next; the last one is the machine's. It stays
+// a `while let`: the plan of a round hangs on the round and the readings that the last one left.
+// `t`, `recording` and `buffer` stay apart: a transfer by value, and two things that are lent.
 pub fn burst(t: Transfer, from: Round, recording: &mut Recording, buffer: &mut [u8]) -> Round
     ensures { ForAny
         (λ (bytes : List ℕ). Bursts t bytes recording.old buffer.old (ReadAsync (Capacity from))

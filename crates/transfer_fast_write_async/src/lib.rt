@@ -71,6 +71,8 @@ fn run(t: Transfer, from: u16, bytes: &[u8], recording: &mut Recording) -> Optio
 {
     let len = t.operation.len;
     let mut i = from;
+    // The labelled loop stays, with i beside it: as in the Rust, a place without a byte leaves both loops,
+    // and how far a round takes i is known only when TXFLR is read.
     'xmit: loop {
         let Some(space) = planned(i, len, recording) else {
             return Some(Point::WriteAsync(FillPoint::Free(i)));
@@ -89,7 +91,8 @@ fn run(t: Transfer, from: u16, bytes: &[u8], recording: &mut Recording) -> Optio
     wait_for_stop(t.operation.send_stop, Ok(()))
 }
 
-// The rounds from a byte on, or from past the last one, and where they lead.
+// The rounds from a byte on, or from past the last one, and where they lead. `t`, `bytes` and `recording`
+// stay apart: a transfer by value, and two things that are lent.
 pub fn burst(t: Transfer, from: u16, bytes: &[u8], recording: &mut Recording) -> Option<Point>
     ensures { Leads t bytes.now recording.old (go (WriteAsync (Free from))) recording.new (Ok result) }
 {
