@@ -9,8 +9,8 @@ ghost use Rattle.regs.specs.Steps.{stored_in};
 use super::answers::{Answer, Reply};
 use super::fields::byte_of;
 
-// What a machine does next: read a register, write it, make a mark, or nothing more. Registers and
-// marks stay numbers here and in `Entry`: C performs the accesses and reads the log by these numbers.
+// What a machine does next: read a register, write it, make a mark, or nothing more. Register and mark stay
+// numbers, here and in an entry: any two words of a log are an entry, whatever number they hold.
 #[derive(Clone, Copy)]
 pub enum Next {
     Read(u8),
@@ -22,8 +22,7 @@ pub enum Next {
 // What is done to the lent buffer with an access: a byte is put at an index, or nothing.
 pub type Store = Option<(usize, u8)>;
 
-// An entry of the log: a register's offset with the word read or written, or a mark.
-// Offset and mark stay numbers, as in `Next`.
+// An entry of the log: a register's offset with the word read or written, or a mark. They stay numbers.
 #[derive(Clone, Copy)]
 pub enum Entry {
     Read(u8, u32),
@@ -194,7 +193,8 @@ impl<'a> Recording<'a> {
     }
 }
 
-// Does to the lent buffer what is done with an access; an index past its end is no place.
+// Does to the lent buffer what is done with an access; an index past its end is no place. The index stays
+// tested here: the library's `get_mut` does not say what the slice ends as, and the proof does not close.
 pub fn keep(buffer: &mut [u8], store: Store)
     ensures { buffer.new ≡ stored_in buffer.old store }
 {

@@ -43,6 +43,7 @@ pub fn byte_of(w: u32) -> u8
     (w & 0xff) as u8
 }
 
+// The bit of a read. It and the 13 below it stay functions over `is_set`, each with the name of its field.
 pub fn is_read(w: u32) -> bool
     ensures { result ≡ cmd w }
 {
@@ -115,6 +116,7 @@ pub fn is_not_empty(w: u32) -> bool
     is_set(w, 3)
 }
 
+// It and the three below it stay functions over `with_field`, each with the name of its interrupt.
 pub fn with_m_rx_full(w: u32) -> u32
     ensures { result ≡ set_m_rx_full w }
 {

@@ -15,7 +15,7 @@ pub const OFFSETS: [u8; 25] = [
     0x6C, 0x70, 0x74, 0x78, 0x7C, 0x80, 0x98, 0xA0, 0xA8,
 ];
 
-// The registers stay numbers: C performs the accesses by their offsets.
+// The registers stay numbers: a log's word may hold any, and C performs the accesses by their offsets.
 pub const CON: u8 = OFFSETS[0];
 
 pub const TAR: u8 = OFFSETS[1];
@@ -101,11 +101,7 @@ const NAMED: [u8; 25] = [
 pub fn offset(row: usize) -> Option<u8>
     ensures { result ≡ slice_get offsets row }
 {
-    if row < NAMED.len() {
-        Some(NAMED[row])
-    } else {
-        None
-    }
+    NAMED.get(row).copied()
 }
 
 // The marks: a poll that is not done, and a reset of the block. They and the registers stay numbers,

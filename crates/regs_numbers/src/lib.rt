@@ -1,6 +1,4 @@
 // The number and detail of each answer (docs/MANUAL.md).
-// These stay functions, since From is no plainer here: `u8::from(reply)` and `u32::from(reply)` would
-// say less than `number_of` and `detail_of` do, and could stand in `regs` alone, whose types these are.
 #![tactic(auto)]
 
 ghost use Rattle.std.specs.Prelude.{◌≡◌};
@@ -9,6 +7,8 @@ ghost use Rattle.regs.specs.Answers.{status_detail, abort_detail, refusal_detail
 
 use regs::answers::{AbortReason, Answer, Command, ReadStatus, Refusal, Reply};
 
+// These stay functions, since From is no plainer here: `u8::from(reply)` and `u32::from(reply)` would
+// say less than `number_of` and `detail_of` do, and could stand in `regs` alone, whose types these are.
 fn number_of_abort(r: AbortReason) -> u8
     ensures { result ≡ abort_number r }
 {
@@ -20,6 +20,7 @@ fn number_of_abort(r: AbortReason) -> u8
     }
 }
 
+// It stays a function, as above.
 fn number_of_refusal(r: Refusal) -> u8
     ensures { result ≡ refusal_number r }
 {
@@ -44,6 +45,7 @@ fn number_of_refusal(r: Refusal) -> u8
     }
 }
 
+// It stays a function, as above.
 fn number_of_answer(a: Answer) -> u8
     ensures { result ≡ answer_number a }
 {
@@ -53,7 +55,7 @@ fn number_of_answer(a: Answer) -> u8
     }
 }
 
-// The number of a reply, 0 where the call was accepted.
+// The number of a reply, 0 where the call was accepted. It stays a function, as above.
 pub fn number_of(r: Reply) -> u8
     ensures { result ≡ number r }
 {
@@ -64,6 +66,7 @@ pub fn number_of(r: Reply) -> u8
     }
 }
 
+// The details stay functions too: From would be a second way from a reply to a number, which tells another.
 fn detail_of_command(c: Command) -> u32
     ensures { result ≡ command_detail c }
 {
@@ -75,6 +78,7 @@ fn detail_of_command(c: Command) -> u32
     }
 }
 
+// It stays a function, as above.
 fn detail_of_status(s: ReadStatus) -> u32
     ensures { result ≡ status_detail s }
 {
@@ -85,6 +89,7 @@ fn detail_of_status(s: ReadStatus) -> u32
     }
 }
 
+// It stays a function, as above.
 fn detail_of_abort(r: AbortReason) -> u32
     ensures { result ≡ abort_detail r }
 {
@@ -96,6 +101,7 @@ fn detail_of_abort(r: AbortReason) -> u32
     }
 }
 
+// It stays a function, as above.
 fn detail_of_refusal(r: Refusal) -> u32
     ensures { result ≡ refusal_detail r }
 {
@@ -108,6 +114,7 @@ fn detail_of_refusal(r: Refusal) -> u32
     }
 }
 
+// It stays a function, as above.
 fn detail_of_answer(a: Answer) -> u32
     ensures { result ≡ answer_detail a }
 {
@@ -119,7 +126,7 @@ fn detail_of_answer(a: Answer) -> u32
     }
 }
 
-// The detail of a reply, 0 where it has none.
+// The detail of a reply, 0 where it has none. It stays a function, as above.
 pub fn detail_of(r: Reply) -> u32
     ensures { result ≡ detail r }
 {

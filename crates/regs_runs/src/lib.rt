@@ -43,10 +43,8 @@ pub fn read(recording: &mut Recording, register: u8) -> u32
 pub fn ahead(recording: &Recording, n: usize) -> u32
     ensures { result ≡ get_or recording.now.readings.now (recording.now.used + n) 0 }
 {
-    match recording.used.checked_add(n) {
-        Some(at) => recording.readings.get(at).copied().unwrap_or(0),
-        None => 0,
-    }
+    let at = recording.used.saturating_add(n);
+    recording.readings.get(at).copied().unwrap_or(0)
 }
 
 // Puts an entry behind those that there are.
