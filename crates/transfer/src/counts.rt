@@ -10,7 +10,7 @@ use regs::fields::level_of;
 pub fn sum(a: usize, n: u16) -> usize
     ensures { result ≡ sum_of a n }
 {
-    a.wrapping_add(n as usize)
+    a.wrapping_add(usize::from(n))
 }
 
 // The free places that TXFLR tells of the transmit FIFO. A level that it does not have is refused.
@@ -19,8 +19,8 @@ pub fn capacity_of(v: u32) -> Result<u16, Refusal>
     ensures { result ≡ capacity v }
 {
     let level = level_of(v);
-    match FIFO_SIZE.checked_sub(level) {
-        Some(places) => Ok(places as u16),
-        None => Err(Refusal::TxLevelOutOfRange(level)),
-    }
+    let places = FIFO_SIZE.checked_sub(level);
+    places
+        .map(u16::from)
+        .ok_or(Refusal::TxLevelOutOfRange(level))
 }

@@ -24,12 +24,13 @@ impl From<u8> for Direction {
     }
 }
 
-// And back. 0 stays: it is the number of a read, and does not stand for nothing.
+// And back, as callers in C are told it.
 impl From<Direction> for u8 {
     ghost use Rattle.transfer.specs.Inner.Operations.{number};
 
     ghost from_gives = { λ direction kind. kind ≡ number direction };
 
+    // 0 stays: it is the number of a read, and does not stand for nothing.
     fn from(direction: Direction) -> u8 {
         match direction {
             Direction::Read => 0,
