@@ -181,7 +181,8 @@ impl Bus {
 
 impl SequenceBuffer<'_> {
     // Here and below the clause on `at` stays a clause, not a ghost field: each asks for the places of the
-    // signs that it puts, 1 to 4, so no one fact holds between the calls.
+    // signs that it puts, 1 to 4, so no one fact holds between the calls. The place stays tested by its
+    // number: the library's `get_mut` does not say what the slice ends as.
     fn put(&mut self, sign: Sign)
         requires { self.old.at + 1 < 2 ^ 64 }
         ensures same_reference { self.new.places.ghost_name ≡ self.old.places.ghost_name }
