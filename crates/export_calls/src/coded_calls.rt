@@ -19,6 +19,7 @@ pub extern "C" fn celadonsaw_crc8(start: u8, bytes: &[u8]) -> u8
 }
 
 // Reads from the address into the buffer and tests the code that follows, and ends when it is done.
+// It and its three kin stay functions of their own: C links them by their names.
 #[unsafe(no_mangle)]
 pub extern "C" fn celadonsaw_blocking_read_pec(
     address: u16,
@@ -35,6 +36,7 @@ pub extern "C" fn celadonsaw_blocking_read_pec(
 }
 
 // Writes the bytes and their code to the address, and ends when it is done.
+// It and its three kin stay functions of their own: C links them by their names.
 #[unsafe(no_mangle)]
 pub extern "C" fn celadonsaw_blocking_write_pec(
     address: u16,
@@ -52,6 +54,7 @@ pub extern "C" fn celadonsaw_blocking_write_pec(
 
 // Writes the bytes to the address, then reads from it into the buffer and tests the code that
 // follows, and ends when it is done.
+// It and its three kin stay functions of their own: C links them by their names.
 #[unsafe(no_mangle)]
 pub extern "C" fn celadonsaw_blocking_write_read_pec(
     address: u16,
@@ -71,6 +74,8 @@ pub extern "C" fn celadonsaw_blocking_write_read_pec(
 
 // Does the operations that kinds (0 a read, 1 a write) and lengths list, with the code at the end
 // of the last, and ends when it is done.
+// It and its three kin stay functions of their own, and `address`, `kinds`, `lengths`, `write` and `read`
+// stay parameters: C links and lends them so.
 #[unsafe(no_mangle)]
 pub extern "C" fn celadonsaw_transaction_pec(
     address: u16,

@@ -63,13 +63,12 @@ pub struct SlaveReport {
     pub report: Report,
 }
 
-// In this `From` and those below the fields stay named one by one: `..` takes them from a value of the same
-// type, and these are others.
 impl From<Ran> for Report {
     ghost use Rattle.export_reports.specs.Report.{report_of};
 
     ghost from_gives = { λ ran report. report ≡ report_of ran };
 
+    // The fields stay named one by one, here and below: `..` takes them from a value of the same type.
     fn from(ran: Ran) -> Report {
         let reply = ran.reply;
         Report {
@@ -86,6 +85,7 @@ impl From<Result<Rate, Refusal>> for BusRate {
 
     ghost from_gives = { λ rated rate. rate ≡ rate_of rated };
 
+    // The fields stay named one by one, as above.
     fn from(rated: Result<Rate, Refusal>) -> BusRate {
         match rated {
             Ok(rate) => BusRate {
@@ -107,6 +107,7 @@ impl From<Option<Counted>> for AbortCauses {
 
     ghost from_gives = { λ set causes. causes ≡ cause_numbers set };
 
+    // The fields stay named one by one, as above.
     fn from(set: Option<Counted>) -> AbortCauses {
         match set {
             None => AbortCauses {
@@ -126,6 +127,7 @@ impl From<Slave> for SlaveState {
 
     ghost from_gives = { λ numbers state. state ≡ state_of numbers };
 
+    // The fields stay named one by one, as above.
     fn from(s: Slave) -> SlaveState {
         SlaveState {
             pending_byte: s.has_pending.then_some(s.pending_byte),
@@ -141,6 +143,7 @@ impl From<SlaveState> for Slave {
 
     ghost from_gives = { λ state numbers. numbers ≡ numbers_of state };
 
+    // The fields stay named one by one, as above.
     fn from(s: SlaveState) -> Slave {
         Slave {
             has_pending: s.pending_byte.is_some(),

@@ -25,6 +25,7 @@ fn plain(mode: Mode, address: u16) -> Way
 }
 
 // Reads from the address into the buffer, and ends when it is done.
+// It and its three kin stay calls of their own: the Rust names them.
 pub fn blocking_read(address: u16, read: &mut [u8], readings: &[u32], log: &mut [u32]) -> Ran
     ensures { LeavesBuffer
         (expected (read_call Spec.blocking address (length read.old)) log.old
@@ -35,6 +36,7 @@ pub fn blocking_read(address: u16, read: &mut [u8], readings: &[u32], log: &mut 
 }
 
 // Writes the bytes to the address, and ends when it is done.
+// It and its three kin stay calls of their own: the Rust names them.
 pub fn blocking_write(address: u16, write: &[u8], readings: &[u32], log: &mut [u32]) -> Ran
     ensures { Leaves
         (expected (write_call Spec.blocking address write.now) log.old
@@ -45,6 +47,7 @@ pub fn blocking_write(address: u16, write: &[u8], readings: &[u32], log: &mut [u
 }
 
 // Writes the bytes to the address, then reads from it into the buffer, and ends when it is done.
+// It and its three kin stay calls of their own: the Rust names them.
 pub fn blocking_write_read(
     address: u16,
     write: &[u8],
@@ -62,6 +65,7 @@ pub fn blocking_write_read(
 
 // The operations that kinds (0 a read, 1 a write) and lengths list,
 // beside one write and one read buffer, and ends when it is done.
+// It and its three kin stay calls of their own: the Rust names them.
 pub fn transaction(
     address: u16,
     kinds: &[u8],

@@ -53,10 +53,9 @@ fn call_by_value(
     Left { state: s, ran }
 }
 
-// The five calls in the Rust's names stay beside `call_by_value`: one function over `Request` is
-// no plainer, since each promises the program of its own call, without the requests' definition.
-
-// `reset`: the address, and whether general calls are heard.
+// `reset`: the address, and whether general calls are heard. The five calls in the Rust's names stay
+// beside `call_by_value`: one function over `Request` is no plainer, since each promises the program of its
+// own call, without the requests' definition.
 pub fn reset(
     state: SlaveState,
     address: u16,

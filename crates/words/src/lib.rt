@@ -108,6 +108,7 @@ pub fn mode(queued: bool) -> Mode
     if queued { Mode::Async } else { Mode::Blocking }
 }
 
+// The form of a mode. It stays a function, as `mode`: both parts of it are needed.
 #[tactic(auto, unfolding(crate::specs::Inner::Words::form_of))]
 fn form(m: Mode, restart: bool) -> u64
     ensures { result ≡ form_of m restart }
@@ -147,7 +148,7 @@ pub fn who_from(words: &[u64; 20]) -> Who
     }
 }
 
-// The place that words stand for.
+// The place that words stand for. It stays a function, as `who_from`.
 #[tactic(auto, unfolding(crate::specs::Inner::Words::place_in))]
 pub fn place_from(words: &[u64; 20]) -> Place
     ensures { result ≡ place_in words.now }
@@ -173,7 +174,7 @@ pub fn operation_from(words: &[u64; 20]) -> Operation
     }
 }
 
-// The transfer that words stand for, of one that has not ended.
+// The transfer that words stand for, of one that has not ended. It stays a function, as `who_from`.
 #[tactic(auto, unfolding(crate::specs::Inner::Words::transfer_in))]
 pub fn transfer_from(words: &[u64; 20]) -> Transfer
     ensures { result ≡ transfer_in words.now }

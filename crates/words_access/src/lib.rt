@@ -43,7 +43,8 @@ pub fn access_at(words: &[u64; 20], group: u64, row: u64, bytes: &[u8]) -> Next
     }
 }
 
-// What an access that read v puts into the lent read buffer.
+// What an access that read v puts into the lent read buffer. `words` and `v` stay two parameters: the words
+// are the caller's, and v is one reading.
 pub fn store(words: &[u64; 20], v: u32) -> Store
     ensures { result ≡ store_held (held_at words.now) v }
 {

@@ -40,10 +40,10 @@ impl From<Failure> for Tried {
     }
 }
 
-// The fields stay named one by one, as `..` takes them from a value of the same type.
 impl From<Who> for Round {
     ghost from_gives = { λ w r. r ≡ round_at w };
 
+    // The fields stay named one by one: `..` takes them from a value of the same type.
     #[tactic(auto, unfolding(crate::specs::Inner::Numbers::round_at))]
     fn from(w: Who) -> Self {
         Round {
@@ -95,6 +95,7 @@ pub fn setup_of(row: u64) -> SetupPoint
     }
 }
 
+// It stays a function, as `setup_of`.
 #[tactic(auto, unfolding(crate::specs::Inner::Numbers::abort_at))]
 pub fn abort_of(row: u64, word: u32) -> AbortPoint
     ensures { result ≡ abort_at row word }
@@ -105,6 +106,7 @@ pub fn abort_of(row: u64, word: u32) -> AbortPoint
     }
 }
 
+// It stays a function, as `setup_of`.
 #[tactic(auto, unfolding(crate::specs::Inner::Numbers::read_at))]
 pub fn read_of(row: u64, i: u16) -> ReadPoint
     ensures { result ≡ read_at row i }
@@ -117,6 +119,7 @@ pub fn read_of(row: u64, i: u16) -> ReadPoint
     }
 }
 
+// It stays a function, as `setup_of`.
 #[tactic(auto, unfolding(crate::specs::Inner::Numbers::write_at))]
 pub fn write_of(row: u64, w: Who) -> WritePoint
     ensures { result ≡ write_at row w }
@@ -128,6 +131,7 @@ pub fn write_of(row: u64, w: Who) -> WritePoint
     }
 }
 
+// It stays a function, as `setup_of`.
 #[tactic(auto, unfolding(crate::specs::Inner::Numbers::queue_at))]
 pub fn queue_of(row: u64, w: Who) -> RoundPoint
     ensures { result ≡ queue_at row w }
@@ -141,6 +145,7 @@ pub fn queue_of(row: u64, w: Who) -> RoundPoint
     }
 }
 
+// It stays a function, as `setup_of`.
 #[tactic(auto, unfolding(crate::specs::Inner::Numbers::fill_at))]
 pub fn fill_of(row: u64, i: u16, n: u16) -> FillPoint
     ensures { result ≡ fill_at row i n }
@@ -152,6 +157,7 @@ pub fn fill_of(row: u64, i: u16, n: u16) -> FillPoint
     }
 }
 
+// It stays a function, as `setup_of`.
 #[tactic(auto, unfolding(crate::specs::Inner::Numbers::wait_at))]
 pub fn wait_of(row: u64, word: u32, w: Who) -> WaitPoint
     ensures { result ≡ wait_at row word w }
@@ -165,6 +171,7 @@ pub fn wait_of(row: u64, word: u32, w: Who) -> WaitPoint
     }
 }
 
+// It stays a function, as `setup_of`.
 #[tactic(auto, unfolding(crate::specs::Inner::Numbers::stop_at))]
 pub fn stop_of(row: u64, f: Failure) -> StopPoint
     ensures { result ≡ stop_at row f }

@@ -74,8 +74,8 @@ impl From<Tried> for Failure {
 }
 
 impl Who {
-    // `kind` stays a number, here and below: it goes into a word of the caller's as it is. The counts of a round
-    // stay named one by one, as `..` takes fields from a value of the same type.
+    // `kind` stays a number, here and below: it goes into a word of the caller's as it is. The counts of a
+    // round stay named one by one, as `..` takes fields from a value of the same type.
     #[tactic(auto, unfolding(crate::specs::Inner::Numbers::indexed, crate::specs::Inner::Numbers::failure))]
     fn at_byte(kind: u64, index: u16, count: u16) -> Self
         ensures { result ≡ indexed kind index count }
@@ -88,6 +88,7 @@ impl Who {
         }
     }
 
+    // The three counts stay named one by one, as said above.
     #[tactic(auto, unfolding(crate::specs::Inner::Numbers::rounded, crate::specs::Inner::Numbers::failure))]
     fn in_round(kind: u64, round: Round, count: u16) -> Self
         ensures { result ≡ rounded kind round count }
@@ -155,10 +156,11 @@ fn at(group: u64, row: u64, word: u32, who: Who) -> Place
     }
 }
 
-// The impls below look alike and stay apart: each has the points of another Rust function, and its own rows.
 impl From<SetupPoint> for Place {
     ghost from_gives = { λ p r. r ≡ setup_row p };
 
+    // This and those below look alike and stay apart: each has the points of another Rust function, and its
+    // own rows.
     #[tactic(auto, unfolding(crate::specs::Inner::Numbers::setup_row))]
     fn from(p: SetupPoint) -> Self {
         match p {
@@ -183,6 +185,7 @@ fn of_abort(p: AbortPoint, caller: Caller) -> Place
 impl From<ReadPoint> for Place {
     ghost from_gives = { λ p r. r ≡ read_row p };
 
+    // It stays apart from the one of `RoundPoint`, as said above.
     #[tactic(auto, unfolding(crate::specs::Inner::Numbers::read_row))]
     fn from(p: ReadPoint) -> Self {
         match p {
