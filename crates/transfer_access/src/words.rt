@@ -20,7 +20,7 @@ pub fn byte_of(bytes: &[u8], at: usize, i: u16) -> u8
     ensures { result ≡ byte_at bytes.now at i }
 {
     bytes
-        .get(at.saturating_add(i as usize))
+        .get(at.saturating_add(usize::from(i)))
         .copied()
         .unwrap_or(0)
 }
@@ -67,7 +67,8 @@ pub fn word_of_queue(queue: u16, len: u16, send_stop: bool, restart: bool) -> u3
 pub fn word_of_fill(byte: u8, i: u16, len: u16, send_stop: bool) -> u32
     ensures { result ≡ fill_word byte i len send_stop }
 {
-    word_of(byte, false, (i as u32 + 1 == len as u32) & send_stop, false)
+    let last = u32::from(i) + 1 == u32::from(len);
+    word_of(byte, false, last & send_stop, false)
 }
 
 #[tactic(auto, unfolding(transfer::specs::Inner::Machine::next_setup))]
@@ -76,7 +77,7 @@ pub fn next_setup(p: SetupPoint, address: u16) -> Next
 {
     match p {
         SetupPoint::Disable => Next::Write(regs::ENABLE, 0),
-        SetupPoint::Target => Next::Write(regs::TAR, address_of(address as u32)),
+        SetupPoint::Target => Next::Write(regs::TAR, address_of(u32::from(address))),
         SetupPoint::Enable => Next::Write(regs::ENABLE, 1),
     }
 }
@@ -161,7 +162,10 @@ pub fn next_wait(p: WaitPoint) -> Next
     ensures { result ≡ next_wait p }
 {
     match p {
-        WaitPoint::RxTl(round) => Next::Write(regs::RX_TL, round.batch.saturating_sub(1) as u32),
+        WaitPoint::RxTl(round) => Next::Write(
+            regs::RX_TL,
+            u32::from(round.batch.saturating_sub(1)),
+        ),
         WaitPoint::TxTl(_) => Next::Write(regs::TX_TL, 1),
         WaitPoint::Mask(_) => Next::Read(regs::INTR_MASK),
         WaitPoint::SetMask(_, w) => Next::Write(regs::INTR_MASK, w),

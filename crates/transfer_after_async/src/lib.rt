@@ -107,7 +107,7 @@ pub fn after_round(send_stop: bool, p: RoundPoint, v: u32) -> Step
         RoundPoint::Queue(round, words) => Ok(Some(word_queued(round, words))),
         RoundPoint::Level(round) => Ok(Some(Point::Abort(
             AbortPoint::Source,
-            Caller::Batch(round, level_of(v) as u16),
+            Caller::Batch(round, u16::from(level_of(v))),
         ))),
         RoundPoint::Fetch(round, left) => Ok(fetch(send_stop, round, left.saturating_sub(1))),
     }

@@ -12,7 +12,7 @@ use transfer::operations::Direction;
 fn address_byte(address: u16, direction: Direction) -> u8
     ensures { result ≡ low_address address (number direction) }
 {
-    let twice = address as u32 * 2;
+    let twice = u32::from(address) * 2;
     match direction {
         Direction::Write => byte_of(twice),
         Direction::Read => byte_of(twice + 1),

@@ -20,7 +20,7 @@ use regs_runs::{ahead, poll};
 fn is_too_few(batch: u16, filled: u32, source: u32) -> bool
     ensures { result ≡ too_few batch filled source }
 {
-    ((level_of(filled) as u16) < batch) & (source == 0)
+    (u16::from(level_of(filled)) < batch) & (source == 0)
 }
 
 // RXFLR has not reached the words of the round. The three waits stay three functions: each names its own
