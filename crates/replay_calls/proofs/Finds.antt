@@ -1,13 +1,9 @@
 -- A listen buffer over the limit.
-use Prim.Native.Nat.{ℕ, ◌+◌, ◌<◌, ◌≤◌}
+use Prim.Native.Nat.{ℕ, ◌<◌}
 use native.Mathlib.Omega.{arith}
-use native.Mathlib.Numerals.{add-one}
-use mathlib.Core.Bool.{true, false}
+use mathlib.Core.Bool.{true}
 use mathlib.Core.List.{List}
-use mathlib.Core.Path.{◌≡◌, refl, sym, ◌∙◌}
-use lib.ListN.{length, drop, get_or, drop_of_length-le}
-use lib.Seq.{drop-cons}
-use borrow.Author.Tests.{lt-ltb, eq-eqb, ne_eqb}
+use borrow.Author.Tests.{lt-ltb}
 use Rattle.slave.specs.I2cSlave.{listen_call}
 use Rattle.slave.specs.declared.SlaveState.{SlaveState}
 use Rattle.regs.specs.Program.{outcome}
@@ -15,7 +11,7 @@ use Rattle.text_hex.specs.Print.{answer_text, log_text}
 use Rattle.text_hex.specs.Added.{Added}
 use Rattle.text_hex.specs.declared.text.Text.{Text}
 use Rattle.text_hex.proofs.Appends.{within}
-use Rattle.replay_calls.specs.Calls.{lists_read, replayed}
+use Rattle.replay_calls.specs.Calls.{replayed}
 use Rattle.replay_calls.specs.Inner.Runs.{MOST_TEXT, Runs, listened}
 use Rattle.replay_calls.proofs.Prints.{printed_as}
 

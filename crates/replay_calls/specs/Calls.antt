@@ -1,5 +1,5 @@
 -- A call of the replay: what it leaves, by its driver's definition, and what is printed of it.
-use Rattle.std.specs.Prelude.{ℕ, ◌+◌, Bool, true, false, not, ◌&&◌, ◌||◌, List, [], ◌∷◌, ◌++◌, eqb, ltb, length, replicate, if◌then◌else◌}
+use Rattle.std.specs.Prelude.{ℕ, ◌+◌, Bool, true, false, not, ◌&&◌, ◌||◌, List, [], ◌∷◌, ◌++◌, eqb, length, replicate, if◌then◌else◌}
 use Rattle.regs.specs.Program.{Program, Outcome, outcome, behaviour}
 use Rattle.regs.specs.Answers.{number}
 use Rattle.regs.specs.declared.answers.Answer.{Answer}

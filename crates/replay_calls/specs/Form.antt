@@ -2,7 +2,6 @@
 use Rattle.std.specs.Prelude.{ℕ, ◌%◌, ◌≡◌, not, Option, Some, None, Result, MatchResult, eqb, ltb, if◌then◌else◌}
 use Rattle.replay_calls.specs.declared.form.Kind.{Kind}
 use Rattle.replay_calls.specs.declared.form.Kind.TheVariants.{Read, Write, WriteRead, Transaction}
-use Rattle.replay_calls.specs.declared.form.Mode.{Mode}
 use Rattle.replay_calls.specs.declared.form.Mode.TheVariants.{Blocking, Async}
 use Rattle.replay_calls.specs.declared.form.Form.{Form}
 use Rattle.replay_calls.specs.declared.form.NoForm.{NoForm}

@@ -5,7 +5,7 @@ pub mod form; // which of the master's calls
 pub mod outcome; // what a run left, printed
 
 use form::Form;
-use slave::SlaveState;
+use text_hex::text::Text;
 
 // A call as its call frame gives it. Its operations stand beside it.
 #[derive(Clone, Copy)]
@@ -30,19 +30,12 @@ pub struct Operations<'a> {
     pub room: usize,
 }
 
-// What the run of a call is lent: the read or listen buffer, the log, and the buffer of the answers.
+// What the run of a call is lent: the read or listen buffer, the log, and the text of the answers.
 #[derive(Drop)]
 pub struct Workspace<'a> {
     pub buffer: &'a mut [u8],
     pub log: &'a mut [u32],
-    pub out: &'a mut [u8],
-}
-
-// The slave's state after a call, and where the printed text ends.
-#[derive(Clone, Copy)]
-pub struct Done {
-    pub slave: SlaveState,
-    pub end: usize,
+    pub text: Text<'a>,
 }
 
 // The largest number of readings that a call may have.

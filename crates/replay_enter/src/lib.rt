@@ -9,25 +9,27 @@ ghost use Rattle.replay_session.specs.Inner.Bounded.{next_held};
 ghost use Rattle.replay_session.specs.Inner.Enter.{arrays_of, session_of, Within, Small, Lent, EnteredAs};
 ghost use Rattle.replay_session.specs.Inner.Enter.{CalledAs, SameLists, longest_kept};
 
-use replay_calls::{Done, Operations, Workspace};
+use answer_text::entries::push_reply;
+use regs::answers::{Answer, Refusal, Reply};
+use replay_calls::{Operations, Workspace};
 use replay_frames::{Short, head_of, plain, width};
-use replay_session::bytes::enter_pairs;
-use replay_session::enter::{enter_call, enter_read, enter_reading};
-use replay_session::{Entered, Lists, Malformed, Open};
+use replay_session::{Lists, Malformed, Open, Session};
 use slave::SlaveState;
-use text_hex::print;
 
-// The end of a call: it is run, or refused with 20.
-fn run_call(o: Open, s: SlaveState, lists: &Lists, work: &mut Workspace, at: usize) -> Done
+// The end of a call: it is run, or refused with 20. Says the slave's state after it.
+fn run_call(o: Open, s: SlaveState, lists: &Lists, work: &mut Workspace) -> SlaveState
     requires small { Within o.counts }
     requires lent { Lent (arrays_of lists.now) }
-    requires room { Roomy work.old at }
+    requires room { Roomy work.old }
     ensures same { SameSpace work.old work.new }
-    ensures called { CalledAs o s (arrays_of lists.now) work.old.out.now at work.new.out.now result }
+    ensures called { CalledAs o s (arrays_of lists.now) work.old.text work.new.text result }
 {
     let Some(filled) = o.counts.filled else {
-        let end = print::push_answer(work.out, at, 20, 0);
-        return Done { slave: s, end };
+        push_reply(
+            &mut work.text,
+            Reply::Answered(Answer::Refused(Refusal::OverLimits)),
+        );
+        return s;
     };
     let operations = Operations {
         kinds: &lists.kinds[..filled.ops],
@@ -35,41 +37,25 @@ fn run_call(o: Open, s: SlaveState, lists: &Lists, work: &mut Workspace, at: usi
         bytes: &lists.bytes[..filled.bytes],
         room: filled.reads,
     };
-    replay_run::run(
-        o.call,
-        operations,
-        &lists.readings[..o.counts.readings],
-        s,
-        work,
-        at,
-    )
+    let readings = &lists.readings[..o.counts.readings];
+    replay_run::run(o.call, operations, readings, s, work)
 }
 
-fn enter_run(
-    call: Option<Open>,
-    s: SlaveState,
-    lists: &Lists,
-    work: &mut Workspace,
-    at: usize,
-) -> Result<Entered, Malformed>
-    requires small { Small call }
+fn enter_run(session: Session, lists: &Lists, work: &mut Workspace) -> Result<Session, Malformed>
+    requires small { Small session.call }
     requires lent { Lent (arrays_of lists.now) }
-    requires room { Roomy work.old at }
+    requires room { Roomy work.old }
     ensures same { SameSpace work.old work.new }
     ensures entered { EnteredAs result
         (arrays_of lists.now)
-        work.old.out.now at work.new.out.now
-        (next_held (session_of call s (arrays_of lists.now))
+        work.old.text work.new.text
+        (next_held (session_of session.call session.slave (arrays_of lists.now))
         run) }
 {
-    let o = call.ok_or(Malformed)?;
+    let o = session.call.ok_or(Malformed)?;
     if o.wants.is_complete() {
-        let d = run_call(o, s, lists, work, at);
-        return Ok(Entered {
-            call: None,
-            slave: d.slave,
-            end: d.end,
-        });
+        let slave = run_call(o, session.slave, lists, work);
+        return Ok(Session { call: None, slave });
     }
     Err(Malformed)
 }
@@ -77,60 +63,56 @@ fn enter_run(
 // A frame of a fixed length.
 fn enter(
     f: Short,
-    call: Option<Open>,
-    s: SlaveState,
+    session: Session,
     lists: &mut Lists,
     work: &mut Workspace,
-    at: usize,
-) -> Result<Entered, Malformed>
-    requires small { Small call }
+) -> Result<Session, Malformed>
+    requires small { Small session.call }
     requires lent { Lent (arrays_of lists.old) }
-    requires room { Roomy work.old at }
+    requires room { Roomy work.old }
     ensures same { SameLists lists.old lists.new }
     ensures same_space { SameSpace work.old work.new }
     ensures entered { EnteredAs result
         (arrays_of lists.new)
-        work.old.out.now at work.new.out.now
-        (next_held (session_of call s (arrays_of lists.old))
+        work.old.text work.new.text
+        (next_held (session_of session.call session.slave (arrays_of lists.old))
         (as_frame (Some f))) }
 {
     match f {
-        Short::Opens(c) => enter_call(c, call, s, at),
-        Short::Read(m) => enter_read(m, call, s, lists, at),
-        Short::Reading(w) => enter_reading(w, call, s, lists, at),
-        Short::Run => enter_run(call, s, lists, work, at),
+        Short::Opens(c) => session.enter_call(c),
+        Short::Read(m) => session.enter_read(m, lists),
+        Short::Reading(w) => session.enter_reading(w, lists),
+        Short::Run => enter_run(session, lists, work),
     }
 }
 
 // A line of the input, without its LF.
 pub fn enter_line(
     line: &[u8],
-    call: Option<Open>,
-    s: SlaveState,
+    session: Session,
     lists: &mut Lists,
     work: &mut Workspace,
-    at: usize,
-) -> Result<Entered, Malformed>
-    requires small { Small call }
+) -> Result<Session, Malformed>
+    requires small { Small session.call }
     requires lent { Lent (arrays_of lists.old) }
-    requires room { Roomy work.old at }
+    requires room { Roomy work.old }
     requires few { length line.now ≤ longest_kept }
     ensures same { SameLists lists.old lists.new }
     ensures same_space { SameSpace work.old work.new }
     ensures entered { EnteredAs result
         (arrays_of lists.new)
-        work.old.out.now at work.new.out.now
-        (next_held (session_of call s (arrays_of lists.old))
+        work.old.text work.new.text
+        (next_held (session_of session.call session.slave (arrays_of lists.old))
         (frame_of line.now)) }
 {
     match head_of(line) {
         Some(l) => {
             let w = width(l);
-            enter_pairs(l, &line[w..], call, s, lists, at)
+            session.enter_pairs(l, &line[w..], lists)
         }
         None => {
             let f = plain(line).ok_or(Malformed)?;
-            enter(f, call, s, lists, work, at)
+            enter(f, session, lists, work)
         }
     }
 }

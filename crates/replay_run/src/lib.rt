@@ -5,13 +5,13 @@ ghost use Rattle.std.specs.Prelude.{◌≡◌, true, false, [], ◌≤◌, lengt
 ghost use Rattle.clock_setting.specs.SetConfig.{set_config};
 ghost use Rattle.text_hex.specs.Added.{Room, Added};
 ghost use Rattle.replay_calls.specs.Calls.{replayed, outcome_text};
-ghost use Rattle.replay_calls.specs.Inner.Runs.{LOG_WORDS, MOST_TEXT, Runs, listened, RanInto, RanAs};
+ghost use Rattle.replay_calls.specs.Inner.Runs.{LOG_WORDS, MOST_TEXT, Runs, listened, RanInto};
 ghost use Rattle.replay_calls.specs.Inner.Runs.{listed_of, Roomy, SameSpace};
 
 use answer_text::entries::push_reply;
 use regs::answers::{Answer, Refusal, Reply};
 use replay_calls::outcome::push_outcome;
-use replay_calls::{Call, Done, Operations, Workspace};
+use replay_calls::{Call, Operations, Workspace};
 use slave::SlaveState;
 use text_hex::text::Text;
 
@@ -102,34 +102,28 @@ fn run_into(
     }
 }
 
-// The same in the slices of a workspace, from `at` on of its answers' buffer.
+// The same in the slices of a workspace.
 pub fn run(
     call: Call,
     operations: Operations,
     readings: &[u32],
     s: SlaveState,
     work: &mut Workspace,
-    at: usize,
-) -> Done
+) -> SlaveState
     requires few { operations.room ≤ 4096 }
-    requires room { Roomy work.old at }
+    requires room { Roomy work.old }
     ensures same { SameSpace work.old work.new }
-    ensures ran { RanAs call
+    ensures ran { RanInto call
         (listed_of operations.entry)
-        readings.now s work.old.out.now at work.new.out.now result }
+        readings.now s work.old.text work.new.text result }
 {
-    let mut text = Text::new(work.out, at);
-    let slave = run_into(
+    run_into(
         call,
         operations,
         readings,
         s,
         work.buffer,
         work.log,
-        &mut text,
-    );
-    Done {
-        slave,
-        end: text.at,
-    }
+        &mut work.text,
+    )
 }

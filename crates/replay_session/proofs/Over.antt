@@ -27,7 +27,7 @@ use Rattle.replay_calls.specs.declared.Call.{Call}
 use Rattle.replay_calls.specs.declared.Call.TheVariants.{Clock, Master, Reset, Listen, Respond, Fill, RespondAndFill}
 use Rattle.replay_session.specs.Session.{wants_by}
 use Rattle.replay_session.specs.Inner.Bounded.{over}
-use Rattle.replay_session.specs.declared.Wants.TheVariants.{Nothing, Read, Write, Both, Any}
+use Rattle.replay_session.specs.declared.Wants.TheVariants.{Nothing, Read, Write, Both}
 use Rattle.replay_session.proofs.Forms.{after, done, form_of}
 
 -- ---- which operations a form has

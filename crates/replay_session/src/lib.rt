@@ -7,11 +7,10 @@ pub mod enter; // what each frame does
 
 ghost use Rattle.std.specs.Prelude.{◌≡◌};
 ghost use Rattle.replay_session.specs.Session.{wants_by, wants_of, read_taken, write_taken, complete};
-ghost use Rattle.replay_session.specs.Inner.Enter.{counts_of, taken_by};
+ghost use Rattle.replay_session.specs.Inner.Enter.{counts_of};
 
 use replay_calls::Call;
 use replay_calls::form::Kind;
-use replay_frames::Line;
 use slave::SlaveState;
 
 // The operations that a call still wants.
@@ -56,23 +55,21 @@ pub struct Open {
     pub counts: Counts,
 }
 
-// What a frame leads to: the open call, if one is, and the slave's state after it, and where what
-// was printed ends.
+// Between two frames: the open call, if one is, and the slave's state.
 #[derive(Clone, Copy)]
-pub struct Entered {
+pub struct Session {
     pub call: Option<Open>,
     pub slave: SlaveState,
-    pub end: usize,
 }
 
 // A frame that is malformed, or comes out of order.
 #[derive(Clone, Copy)]
 pub struct Malformed;
 
-impl Wants {
-    fn of_kind(kind: Kind) -> Wants
-        ensures { result ≡ wants_by kind }
-    {
+impl From<Kind> for Wants {
+    ghost from_gives = { λ kind wants. wants ≡ wants_by kind };
+
+    fn from(kind: Kind) -> Wants {
         match kind {
             Kind::Read => Wants::Read,
             Kind::Write => Wants::Write,
@@ -80,24 +77,28 @@ impl Wants {
             Kind::Transaction => Wants::Any,
         }
     }
+}
 
-    // Only a transfer wants operations: the bytes of a response come with its call.
-    fn of(call: Call) -> Wants
-        ensures { result ≡ wants_of call }
-    {
+// Only a transfer wants operations: the bytes of a response come with its call.
+impl From<Call> for Wants {
+    ghost from_gives = { λ call wants. wants ≡ wants_of call };
+
+    fn from(call: Call) -> Wants {
         match call {
-            Call::Master(form, _) => Wants::of_kind(form.kind),
+            Call::Master(form, _) => Wants::from(form.kind),
             _ => Wants::Nothing,
         }
     }
+}
 
+impl Wants {
     // What is wanted after a read, if one may come now.
     fn after_read(self) -> Option<Wants>
         ensures { result ≡ read_taken self }
     {
         match self {
             Wants::Read => Some(Wants::Nothing),
-            Wants::Any => Some(Wants::Any),
+            Wants::Any => Some(self),
             Wants::Nothing | Wants::Write | Wants::Both => None,
         }
     }
@@ -109,7 +110,7 @@ impl Wants {
         match self {
             Wants::Write => Some(Wants::Nothing),
             Wants::Both => Some(Wants::Read),
-            Wants::Any => Some(Wants::Any),
+            Wants::Any => Some(self),
             Wants::Nothing | Wants::Read => None,
         }
     }
@@ -128,29 +129,5 @@ pub fn counts_of(call: Option<Open>) -> Counts
     match call {
         Some(o) => o.counts,
         None => Counts::none(),
-    }
-}
-
-// The open call after a line of bytes, with its counts then, if the line may come now.
-fn taken_by(l: Line, call: Option<Open>, counts: Counts) -> Option<Open>
-    ensures { result ≡ taken_by l call counts }
-{
-    match (l, call) {
-        (Line::Write, Some(o)) => Some(Open {
-            wants: o.wants.after_write()?,
-            counts,
-            ..o
-        }),
-        (Line::Respond, None) => Some(Open {
-            call: Call::Respond,
-            wants: Wants::Nothing,
-            counts,
-        }),
-        (Line::RespondAndFill(fill), None) => Some(Open {
-            call: Call::RespondAndFill(fill),
-            wants: Wants::Nothing,
-            counts,
-        }),
-        _ => None,
     }
 }

@@ -1,16 +1,14 @@
 -- What the run of a call is lent, and what it leaves. Contracts of inner functions cite this.
-use Rattle.std.specs.Prelude.{ℕ, ◌+◌, ◌≤◌, Bool, List, ◌≡◌, length, replicate}
+use Rattle.std.specs.Prelude.{ℕ, Bool, List, ◌≡◌, length, replicate}
 use Rattle.regs.specs.Program.{Outcome}
 use Rattle.regs.specs.declared.answers.Reply.{Reply}
 use Rattle.slave.specs.declared.SlaveState.{SlaveState}
-use Rattle.text_hex.specs.Appended.{Appended}
-use Rattle.text_hex.specs.Added.{Added}
+use Rattle.text_hex.specs.Added.{Room, Added}
 use Rattle.text_hex.specs.declared.text.Text.{Text}
 use Rattle.replay_calls.specs.Calls.{Listed, listed, replayed, transfer_of, buffer_of, lists_read, has_buffer, outcome_of, outcome_text}
 use Rattle.slave.specs.I2cSlave.{listen_call}
 use Rattle.replay_calls.specs.declared.form.Form.{Form}
 use Rattle.replay_calls.specs.declared.Call.{Call}
-use Rattle.replay_calls.specs.declared.Done.{Done}
 use Rattle.replay_calls.specs.declared.Operations.{Operations}
 use Rattle.replay_calls.specs.declared.Workspace.{Workspace}
 
@@ -26,20 +24,20 @@ MOST_TEXT = 114704
 abbrev pub listed_of : Operations → Listed
 listed_of o = listed o.kinds.now o.lengths.now o.bytes.now o.room
 
--- the slices that a run is lent have room for the largest answer from `at` on
-pub record Roomy (w : Workspace) (at : ℕ) : Type 0 where
+-- the slices that a run is lent have their lengths, and the text has room for the largest answer
+pub record Roomy (w : Workspace) : Type 0 where
   pub buffer : length w.buffer.now ≡ 4096
   pub log : length w.log.now ≡ LOG_WORDS
-  pub out : at + MOST_TEXT ≤ length w.out.now
+  pub text : Room MOST_TEXT w.text
 
 -- they are the same slices still
 pub record SameSpace (before after : Workspace) : Type 0 where
   pub buffer : after.buffer.ghost_name ≡ before.buffer.ghost_name
   pub log : after.log.ghost_name ≡ before.log.ghost_name
-  pub out : after.out.ghost_name ≡ before.out.ghost_name
+  pub out : after.text.out.ghost_name ≡ before.text.out.ghost_name
   pub buffer_length : length after.buffer.now ≡ length before.buffer.now
   pub log_length : length after.log.now ≡ length before.log.now
-  pub out_length : length after.out.now ≡ length before.out.now
+  pub out_length : length after.text.out.now ≡ length before.text.out.now
 
 -- a call has left the outcome o: its text is added, and the slave's state is the one after it
 pub record Runs (buffered : Bool) (o : Outcome SlaveState Reply) (before after : Text) (s : SlaveState) : Type 0 where
@@ -60,7 +58,3 @@ listened n readings s = replayed (listen_call n) readings (replicate n 0) s
 -- any call
 abbrev pub RanInto : Call → Listed → List ℕ → SlaveState → Text → Text → SlaveState → Type 0
 RanInto c l readings s before after r = Runs (has_buffer c l) (outcome_of c l readings s) before after r
-
-pub record RanAs (c : Call) (l : Listed) (readings : List ℕ) (s : SlaveState) (before : List ℕ) (at : ℕ) (after : List ℕ) (r : Done) : Type 0 where
-  pub text : Appended before at (outcome_text (has_buffer c l) (outcome_of c l readings s)) MOST_TEXT after r.end
-  pub slave : r.slave ≡ (outcome_of c l readings s).state

@@ -13,7 +13,7 @@ pub returns-in-Some-clause-entered : goal.returns-in-Some-clause-entered
 returns-in-Some-clause-entered c = let a = c.args in
     rw (sym c.head_of.ensures ∙ c.in-Some.is)
     (rw (behind a.line.now c.width-w.result, c.width-w.ensures)
-    at (c.enter_pairs.ensures.entered a.work.now.out.now c.requires.lent))
+    at (c.enter_pairs.ensures.entered a.work.now.text c.requires.lent))
 
 pub slice_bounds-enter_pairs-start : goal.slice_bounds-enter_pairs-start
 slice_bounds-enter_pairs-start c =

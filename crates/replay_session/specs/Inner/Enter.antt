@@ -1,14 +1,14 @@
 -- How the code's values stand for frames and sessions, and what entering a frame does. Contracts of inner functions cite this.
-use Rattle.std.specs.Prelude.{ℕ, ◌+◌, ◌≤◌, Bool, true, false, ◌||◌, Option, Some, None, Result, Ok, Err, List, [], ◌≡◌, ltb, length, take, set, if◌then◌else◌}
+use Rattle.std.specs.Prelude.{ℕ, ◌+◌, ◌≤◌, Bool, ◌||◌, Option, Some, None, Result, Ok, Err, List, [], ◌≡◌, ltb, length, take, set, if◌then◌else◌}
 use Rattle.slave.specs.declared.SlaveState.{SlaveState}
-use Rattle.text_hex.specs.Appended.{Appended}
+use Rattle.text_hex.specs.Added.{Added}
+use Rattle.text_hex.specs.declared.text.Text.{Text}
 use Rattle.replay_calls.specs.Calls.{MOST_READINGS, listed}
 use Rattle.replay_calls.specs.Inner.Runs.{MOST_TEXT}
 use Rattle.replay_frames.specs.Frame.{bytes_frame}
 use Rattle.text_hex.specs.Text.{bytes_of}
 use Rattle.text_hex.specs.Pairs.{PutAt}
 use Rattle.replay_calls.specs.declared.Call.{Call}
-use Rattle.replay_calls.specs.declared.Done.{Done}
 use Rattle.replay_calls.specs.declared.Call.TheVariants.{Respond, RespondAndFill}
 use Rattle.replay_session.specs.Session.{Next, going, malformed, wants_of, read_taken, write_taken, complete}
 use Rattle.replay_session.specs.Inner.Bounded.{Kept, kept, large, Held, idle, within, kept_text, kept_slave, next_held}
@@ -18,7 +18,7 @@ use Rattle.replay_session.specs.declared.Counts.{Counts}
 use Rattle.replay_session.specs.declared.Filled.{Filled}
 use Rattle.replay_session.specs.declared.Open.{Open}
 use Rattle.replay_session.specs.declared.Lists.{Lists}
-use Rattle.replay_session.specs.declared.Entered.{Entered}
+use Rattle.replay_session.specs.declared.Session.{Session}
 use Rattle.replay_session.specs.declared.Malformed.{Malformed}
 use Rattle.replay_frames.specs.declared.Line.{Line}
 
@@ -108,40 +108,39 @@ abbrev pub text_of : Next Held → List ℕ
 text_of (going h t) = t
 text_of malformed = []
 
-abbrev pub next_of : Result Entered Malformed → Arrays → List ℕ → Next Held
+abbrev pub next_of : Result Session Malformed → Arrays → List ℕ → Next Held
 next_of (Ok e) a text = going (session_of e.call e.slave a) text
 next_of (Err e) a text = malformed
 
-abbrev pub end_of : Result Entered Malformed → ℕ → ℕ
-end_of (Ok e) at = e.end
-end_of (Err e) at = at
+-- a malformed frame prints nothing by itself
+abbrev pub most_of : Result Session Malformed → ℕ
+most_of (Ok e) = MOST_TEXT
+most_of (Err e) = 0
 
-abbrev pub SmallAfter : Result Entered Malformed → Type 0
+abbrev pub SmallAfter : Result Session Malformed → Type 0
 SmallAfter (Ok e) = Small e.call
 SmallAfter (Err e) = Unit {0}
 
-pub record EnteredAs (e : Result Entered Malformed) (a : Arrays) (out₀ : List ℕ) (at : ℕ) (out : List ℕ) (to : Next Held) : Type 0 where
+pub record EnteredAs (e : Result Session Malformed) (a : Arrays) (before after : Text) (to : Next Held) : Type 0 where
   pub same : next_of e a (text_of to) ≡ to
-  pub text : Appended out₀ at (text_of to) MOST_TEXT out (end_of e at)
+  pub text : Added before (text_of to) (most_of e) after
   pub small : SmallAfter e
   pub lent : Lent a
 
 -- the open call was run, or refused with 20
-pub record CalledAs (o : Open) (s : SlaveState) (a : Arrays) (out₀ : List ℕ) (at : ℕ) (out : List ℕ) (r : Done) : Type 0 where
-  pub text : Appended out₀
-      at (kept_text o.call (kept_of o.counts a) (take o.counts.readings a.readings) s) MOST_TEXT out
-      r.end
-  pub slave : r.slave ≡ kept_slave o.call (kept_of o.counts a) (take o.counts.readings a.readings) s
+pub record CalledAs (o : Open) (s : SlaveState) (a : Arrays) (before after : Text) (r : SlaveState) : Type 0 where
+  pub text : Added before (kept_text o.call (kept_of o.counts a) (take o.counts.readings a.readings) s) MOST_TEXT after
+  pub slave : r ≡ kept_slave o.call (kept_of o.counts a) (take o.counts.readings a.readings) s
 
 -- ---- the code's small steps
 
 abbrev pub opened : Call → Wants → Counts → Open
 opened c w n = record { call = c; wants = w; counts = n }
 
-abbrev pub entered : Option Open → SlaveState → ℕ → Result Entered Malformed
-entered o s at = Ok (record { call = o; slave = s; end = at })
+abbrev pub entered : Option Open → SlaveState → Result Session Malformed
+entered o s = Ok (record { call = o; slave = s })
 
-abbrev pub not_entered : Result Entered Malformed
+abbrev pub not_entered : Result Session Malformed
 not_entered = Err (record {})
 
 abbrev pub over_of : Counts → Counts
@@ -162,9 +161,9 @@ more_if (Some f) b m = more f b m
 abbrev pub added_to : Counts → ℕ → ℕ → Counts
 added_to n b m = record { filled = more_if n.filled b m; readings = n.readings }
 
-abbrev pub call_entered : Call → Option Open → SlaveState → ℕ → Result Entered Malformed
-call_entered c (Some o) s at = not_entered
-call_entered c None s at = entered (Some (opened c (wants_of c) no_counts)) s at
+abbrev pub call_entered : Call → Option Open → SlaveState → Result Session Malformed
+call_entered c (Some o) s = not_entered
+call_entered c None s = entered (Some (opened c (wants_of c) no_counts)) s
 
 -- the open call after an operation that may come now, or not
 abbrev pub taken_as : Call → Counts → Option Wants → Option Open
@@ -172,13 +171,13 @@ taken_as c n None = None
 taken_as c n (Some w) = Some (opened c w n)
 
 -- a frame that comes in order or not, with the open call after it
-abbrev pub bytes_entered : Option Open → SlaveState → ℕ → Result Entered Malformed
-bytes_entered None s at = not_entered
-bytes_entered (Some o) s at = entered (Some o) s at
+abbrev pub bytes_entered : Option Open → SlaveState → Result Session Malformed
+bytes_entered None s = not_entered
+bytes_entered (Some o) s = entered (Some o) s
 
-abbrev pub read_entered : ℕ → Option Open → SlaveState → ℕ → Result Entered Malformed
-read_entered m None s at = not_entered
-read_entered m (Some o) s at = bytes_entered (taken_as o.call (added_to o.counts 0 m) (read_taken o.wants)) s at
+abbrev pub read_entered : ℕ → Option Open → SlaveState → Result Session Malformed
+read_entered m None s = not_entered
+read_entered m (Some o) s = bytes_entered (taken_as o.call (added_to o.counts 0 m) (read_taken o.wants)) s
 
 -- the open call after a line of bytes, with its counts then
 abbrev pub taken_by : Line → Option Open → Counts → Option Open
@@ -192,11 +191,11 @@ taken_by (Line.RespondAndFill b) (Some o) n = None
 abbrev pub one_reading : Counts → Counts
 one_reading n = record { filled = n.filled; readings = n.readings + 1 }
 
-abbrev pub reading_entered : Option Open → SlaveState → ℕ → Result Entered Malformed
-reading_entered None s at = not_entered
-reading_entered (Some o) s at =
+abbrev pub reading_entered : Option Open → SlaveState → Result Session Malformed
+reading_entered None s = not_entered
+reading_entered (Some o) s =
     if complete o.wants then
-    (if ltb o.counts.readings MOST_READINGS then entered (Some (opened o.call Nothing (one_reading o.counts))) s at else not_entered)
+    (if ltb o.counts.readings MOST_READINGS then entered (Some (opened o.call Nothing (one_reading o.counts))) s else not_entered)
     else not_entered
 
 -- the bytes that the pairs of digits write stand behind those of the call, where they are within the limits
@@ -206,6 +205,6 @@ PutBehind ds (Some f) a a' = (a'.kinds ≡ a.kinds) × (a'.lengths ≡ a.lengths
     × PutAt ds f.bytes a.bytes a'.bytes
 
 -- a line of the pairs of digits `ds` was entered, whatever was printed before
-abbrev pub PairsAs : Line → List ℕ → Option Open → SlaveState → Arrays → Arrays → ℕ → Result Entered Malformed → Type 0
-PairsAs l ds o s a a' at r =
-    (out : List ℕ) → Lent a → EnteredAs r a' out at out (next_held (session_of o s a) (bytes_frame l (bytes_of ds)))
+abbrev pub PairsAs : Line → List ℕ → Option Open → SlaveState → Arrays → Arrays → Result Session Malformed → Type 0
+PairsAs l ds o s a a' r =
+    (text : Text) → Lent a → EnteredAs r a' text text (next_held (session_of o s a) (bytes_frame l (bytes_of ds)))
