@@ -13,7 +13,6 @@ use Rattle.text_hex.specs.declared.text.Text.{Text}
 use Rattle.text_hex.proofs.Appends.{within}
 use Rattle.replay_calls.specs.Calls.{replayed}
 use Rattle.replay_calls.specs.Inner.Runs.{MOST_TEXT, Runs, listened}
-use Rattle.replay_calls.proofs.Prints.{printed_as}
 
 -- number 20 is the answer to a listen of more than 4,096 bytes, whatever is read
 pub listen_over : (n : ℕ) (readings : List ℕ) (s : SlaveState)
@@ -23,4 +22,8 @@ pub listen_over : (n : ℕ) (readings : List ℕ) (s : SlaveState)
     → Runs true (listened n readings s) before after s
 unfolding replayed outcome listen_call log_text
 listen_over n readings s h before after a =
-    record { text = rw (lt-ltb 4096 n h) (printed_as a (within MOST_TEXT (omega arith) a.appended)); slave = rw (lt-ltb 4096 n h) }
+    record {
+      text = rw (lt-ltb 4096 n h)
+          (record { same_reference = a.same_reference; size = a.size; appended = within MOST_TEXT (omega arith) a.appended });
+      slave = rw (lt-ltb 4096 n h);
+    }

@@ -2,3 +2,4 @@
 pub mod Finds
 pub mod Prints
 pub mod Legal
+pub mod Cleared

@@ -1,10 +1,13 @@
 -- What a driver's run leaves, printed, is the text of its outcome.
 use Prim.Native.Nat.{ℕ, zero, suc, ◌+◌, ◌*◌, ◌/◌, ◌≤◌}
 use native.Mathlib.Omega.{arith}
-use mathlib.Core.Bool.{Bool}
+use mathlib.Core.Bool.{Bool, true, false}
 use mathlib.Core.List.{List, [], ◌∷◌, ◌++◌}
-use mathlib.Core.Path.{◌≡◌, refl, sym, ap}
+use mathlib.Core.Path.{◌≡◌, refl, sym, ap, ◌∙◌}
 use lib.ListN.{length, take, length-append}
+use Rattle.std.specs.Prelude.{Option, None}
+use Rattle.std.specs.Bool.{then_some}
+use Rattle.std.specs.Borrow.{Bor}
 use Rattle.regs.specs.Program.{Behaviour, ends, reads, writes, marks, stores, asks, keeps, cut, Program, Outcome, outcome, behaviour}
 use Rattle.regs.specs.Log.{decode, Leaves, expected}
 use Rattle.regs.specs.Legality.{LegalCall}
@@ -15,12 +18,11 @@ use Rattle.regs.specs.declared.access.Ran.{Ran}
 use Rattle.regs.proofs.Refine.{length_encode}
 use Rattle.regs.proofs.RoundTrip.{read_back}
 use Rattle.text_hex.specs.Print.{log_text, reply_text}
-use Rattle.text_hex.specs.Appended.{Appended}
-use Rattle.text_hex.specs.Added.{Added}
+use Rattle.text_hex.specs.Added.{Room, Added}
 use Rattle.text_hex.specs.declared.text.Text.{Text}
 use Rattle.text_hex.proofs.Appends.{within}
-use Rattle.replay_calls.specs.Calls.{LOG_ENTRIES, replayed, shown}
-use Rattle.replay_calls.specs.Inner.Runs.{LOG_WORDS, MOST_TEXT}
+use Rattle.replay_calls.specs.Calls.{LOG_ENTRIES, replayed, shown, outcome_text}
+use Rattle.replay_calls.specs.Inner.Runs.{LOG_WORDS, MOST_TEXT, shown_if, size_if}
 
 module _ {S : Type 0} {o : Outcome S Reply} {before after : List ℕ} {r : Ran} (l : Leaves o before after r)
     (size : length before ≡ LOG_WORDS) (kept : length after ≡ length before) where
@@ -29,11 +31,11 @@ module _ {S : Type 0} {o : Outcome S Reply} {before after : List ℕ} {r : Ran} 
   few = omega (arith, l.entries, simp length-append at (ap length l.log), length_encode o.log)
 
   -- what printing asks for
-  pub room : (at n space : ℕ)
-      → n ≤ 4096
-      → at + MOST_TEXT ≤ space
-      → (at + (13 * r.entries + (3 + 2 * n + 13)) ≤ space) × (r.entries * 2 ≤ length after)
-  room at n space h fits = (omega (arith, few), omega (arith, few))
+  pub room : (o : Option (Bor (List ℕ))) (t : Text)
+      → size_if o ≤ 4096
+      → Room MOST_TEXT t
+      → Room (13 * r.entries + (3 + 2 * size_if o + 13)) t × (r.entries * 2 ≤ length after)
+  room o t h fits = (omega (arith, few), omega (arith, few))
 
 -- the log lent by the replay has the room that its definition gives
 in_room : {S : Type 0} (p : Program S Answer Answer) (log readings buffer : List ℕ) (s : S) → length log ≡ LOG_WORDS
@@ -62,42 +64,59 @@ none_stored told full dry cut room rs s = refl
 abbrev text : {S : Type 0} → Bool → Outcome S Reply → List ℕ → List ℕ
 text buffered o b = log_text o.log ++ (shown buffered o.answer b ++ reply_text o.answer)
 
+-- what `push_outcome` puts
+abbrev pub Printed : List ℕ → Ran → Option (Bor (List ℕ)) → Text → Text → Type 0
+Printed after r o x y =
+    Added x (log_text (decode (take (r.entries * 2) after)) ++ (shown_if o r.reply ++ reply_text r.reply))
+    (13 * r.entries + (3 + 2 * size_if o + 13)) y
+
+pub size_then : {o : Option (Bor (List ℕ))} (buffered : Bool) (b : Bor (List ℕ)) → o ≡ then_some buffered b → size_if o ≤ length b.now
+size_then true b e = rw e (omega arith)
+size_then false b e = rw e (omega arith)
+
 module _ {S : Type 0} (p : Program S Answer Answer) (legal : LegalCall p) (log readings buffer : List ℕ) (s : S)
     (size : length log ≡ LOG_WORDS)
     {after : List ℕ} {r : Ran} (l : Leaves (expected p log readings buffer s) log after r) (kept : length after ≡ length log) where
   pub state_left : {z : S} → z ≡ (expected p log readings buffer s).state → z ≡ (replayed p readings buffer s).state
   state_left e = rw (← in_room p log readings buffer s size) e
 
-  printed : {a d : List ℕ} {i k : ℕ} (buffered : Bool) (b : List ℕ) → length b ≤ 4096
-      → Appended a i (log_text (decode (take (r.entries * 2) after))
-      ++ (shown buffered r.reply b ++ reply_text r.reply))
-      (13 * r.entries + (3 + 2 * length b + 13)) d k
-      → Appended a i (text buffered (expected p log readings buffer s) b) MOST_TEXT d k
-  printed buffered b h x =
-      within MOST_TEXT (omega (arith, few l size kept)) (rw (read_back l (legal log readings buffer s), l.reply) at x)
+  printed : (o : Option (Bor (List ℕ))) (buffered : Bool) (b : List ℕ)
+      → shown_if o r.reply ≡ shown buffered r.reply b
+      → size_if o ≤ 4096
+      → {x y : Text} → Printed after r o x y → Added x (text buffered (expected p log readings buffer s) b) MOST_TEXT y
+  printed o buffered b e h a = record {
+    same_reference = a.same_reference;
+    size = a.size;
+    appended = within MOST_TEXT (omega (arith, few l size kept)) (rw (e, read_back l (legal log readings buffer s), l.reply) at a.appended);
+  }
 
-  -- with the buffer that the run left
-  pub prints : {a d : List ℕ} {i k : ℕ} (buffered : Bool) (b : List ℕ) → b ≡ (expected p log readings buffer s).buffer → length b ≤ 4096
-      → Appended a i (log_text (decode (take (r.entries * 2) after))
-      ++ (shown buffered r.reply b ++ reply_text r.reply))
-      (13 * r.entries + (3 + 2 * length b + 13)) d k
-      → Appended a i (text buffered (replayed p readings buffer s) (replayed p readings buffer s).buffer) MOST_TEXT d k
-  prints buffered b e h x = rw (← in_room p log readings buffer s size, ← e) (printed buffered b h x)
+  -- with no buffer
+  pub prints_none : {x y : Text} → Printed after r None x y → Added x (outcome_text false (replayed p readings buffer s)) MOST_TEXT y
+  prints_none a = rw (← in_room p log readings buffer s size) (printed None false [] refl (omega arith) a)
 
--- with none
+  -- with the buffer that the run left, where it is shown
+  pub prints : {o : Option (Bor (List ℕ))} (buffered : Bool) (b : Bor (List ℕ))
+      → o ≡ then_some buffered b
+      → b.now ≡ (expected p log readings buffer s).buffer
+      → length b.now ≤ 4096
+      → {x y : Text} → Printed after r o x y
+      → Added x (outcome_text buffered (replayed p readings buffer s)) MOST_TEXT y
+  prints {o} buffered b is e h a =
+      rw (← in_room p log readings buffer s size, ← e)
+      (printed o buffered b.now (rw is (shown_then buffered)) (omega (arith, size_then buffered b is, h)) a)
+    where
+      shown_then : (c : Bool) → shown_if (then_some c b) r.reply ≡ shown c r.reply b.now
+      shown_then true = refl
+      shown_then false = refl
+
+-- with an empty one
 module _ {S : Type 0} (p : Program S Answer Answer) (legal : LegalCall p) (log readings : List ℕ) (s : S) (size : length log ≡ LOG_WORDS)
     {after : List ℕ} {r : Ran} (l : Leaves (expected p log readings [] s) log after r) (kept : length after ≡ length log) where
-  pub prints_none : {a d : List ℕ} {i k : ℕ} (buffered : Bool)
-      → Appended a i (log_text (decode (take (r.entries * 2) after))
-      ++ (shown buffered r.reply [] ++ reply_text r.reply))
-      (13 * r.entries + (3 + 2 * length {A = ℕ} [] + 13)) d k
-      → Appended a i (text buffered (replayed p readings [] s) (replayed p readings [] s).buffer) MOST_TEXT d k
-  prints_none buffered x = prints p legal log readings [] s size l kept buffered []
-      (sym (none_stored Answered LogFull OutOfReadings (behaviour p (length log / 2)) (length log / 2) readings s))
-      (omega arith) x
-
--- the text that was put stands in the same buffer, whatever it is called
-pub printed_as : {before after : Text} {t u : List ℕ} {n m : ℕ} → Added before t n after
-    → Appended before.out.now before.at u m after.out.now after.at
-    → Added before u m after
-printed_as x y = record { same_reference = x.same_reference; size = x.size; appended = y }
+  pub prints_empty : {o : Option (Bor (List ℕ))} (buffered : Bool) (b : Bor (List ℕ))
+      → o ≡ then_some buffered b
+      → b.now ≡ []
+      → {x y : Text} → Printed after r o x y
+      → Added x (outcome_text buffered (replayed p readings [] s)) MOST_TEXT y
+  prints_empty buffered b is e a = prints p legal log readings [] s size l kept buffered b is
+      (e ∙ sym (none_stored Answered LogFull OutOfReadings (behaviour p (length log / 2)) (length log / 2) readings s))
+      (omega (arith, ap length e)) a

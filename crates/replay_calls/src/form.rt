@@ -10,15 +10,16 @@ pub enum Kind {
     Transaction,
 }
 
-// How the call waits for its bytes: bit 2. The transfer's own mode is the machine's, which no
-// call of the replay sees.
+// How the call waits for its bytes: bit 2. It stays a type of its own beside the transfer's mode,
+// which is the machine's: the definitions of the replay speak of the master alone.
 #[derive(Clone, Copy)]
 pub enum Mode {
     Blocking,
     Async,
 }
 
-// `coded`: with a packet error code, bit 3.
+// `coded`: with a packet error code, bit 3. It stays beside `i2c::forms::Way`, which has an address
+// where this has a kind: a frame gives the form as one number, and the address apart from it.
 #[derive(Clone, Copy)]
 pub struct Form {
     pub kind: Kind,

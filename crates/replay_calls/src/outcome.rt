@@ -1,12 +1,14 @@
 // What a run left, printed.
-ghost use Rattle.std.specs.Prelude.{◌≡◌, ◌++◌, ◌+◌, ◌*◌, ◌≤◌, length, take, replicate};
+ghost use Rattle.std.specs.Prelude.{◌≡◌, ◌++◌, ◌+◌, ◌*◌, ◌≤◌, eqb, length, take, replicate};
+ghost use Rattle.regs.specs.Answers.{number};
 ghost use Rattle.regs.specs.Log.{decode};
 ghost use Rattle.text_hex.specs.Print.{log_text, reply_text};
 ghost use Rattle.text_hex.specs.Added.{Room, Added};
-ghost use Rattle.replay_calls.specs.Calls.{shown_by, shown};
+ghost use Rattle.replay_calls.specs.Inner.Runs.{shown_if, size_if};
 
 use answer_text::entries::{push_log, push_reply};
 use regs::access::Ran;
+use regs::answers::{Answer, Refusal, Reply};
 use text_hex::text::Text;
 
 // Zeros in all of a buffer.
@@ -16,31 +18,40 @@ pub fn clear(buffer: &mut [u8])
     buffer.fill(0);
 }
 
-// The buffer, where there is one and the call was not refused with 20.
-fn push_shown(text: &mut Text, buffered: bool, number: u8, buffer: &[u8])
-    requires { Room (3 + 2 * length buffer.now) text.old }
+// Whether the call was refused as beyond the limits, which is number 20.
+fn is_over_limits(reply: Reply) -> bool
+    ensures { result ≡ eqb (number reply) 20 }
+{
+    matches!(reply, Reply::Answered(Answer::Refused(Refusal::OverLimits)))
+}
+
+// The buffer, where there is one and the call was not beyond the limits.
+fn push_shown(text: &mut Text, reply: Reply, buffer: Option<&[u8]>)
+    requires { Room (3 + 2 * size_if buffer) text.old }
     ensures { Added text.old
-        (shown_by buffered number buffer.now)
-        (3 + 2 * length buffer.now)
+        (shown_if buffer.entry reply)
+        (3 + 2 * size_if buffer.entry)
         text.new }
 {
-    if buffered && number != 20 {
-        return text.push_buffer(buffer);
+    if let Some(bytes) = buffer {
+        if !is_over_limits(reply) {
+            text.push_buffer(bytes);
+        }
     }
 }
 
-// The log, the buffer, the reply. `buffered` is not whether there is a buffer: a transfer that lists a read
-// prints its buffer even where it is empty, and one that lists none prints none.
-pub fn push_outcome(text: &mut Text, log: &[u32], ran: Ran, buffered: bool, buffer: &[u8])
-    requires { Room (13 * ran.entries + (3 + 2 * length buffer.now + 13)) text.old
+// The log, the buffer, the reply. A transfer that lists a read
+// has a buffer even where it is empty, and one that lists none has none.
+pub fn push_outcome(text: &mut Text, log: &[u32], ran: Ran, buffer: Option<&[u8]>)
+    requires { Room (13 * ran.entries + (3 + 2 * size_if buffer + 13)) text.old
         × (ran.entries * 2 ≤ length log.now) }
     ensures { Added text.old
         (log_text (decode (take (ran.entries * 2) log.now))
-        ++ (shown buffered ran.reply buffer.now ++ reply_text ran.reply))
-        (13 * ran.entries + (3 + 2 * length buffer.now + 13))
+        ++ (shown_if buffer.entry ran.reply ++ reply_text ran.reply))
+        (13 * ran.entries + (3 + 2 * size_if buffer.entry + 13))
         text.new }
 {
     push_log(text, log, ran.entries);
-    push_shown(text, buffered, regs_numbers::number_of(ran.reply), buffer);
+    push_shown(text, ran.reply, buffer);
     push_reply(text, ran.reply);
 }

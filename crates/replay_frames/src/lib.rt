@@ -4,7 +4,7 @@
 ghost use Rattle.std.specs.Prelude.{◌≡◌};
 ghost use Rattle.text_hex.specs.Appended.{Below, NumberAs};
 ghost use Rattle.replay_frames.specs.Frame.{clock_of, master_of, reset_of};
-ghost use Rattle.replay_frames.specs.Frame.{slave_of, of_kind, plain_of, fill_head};
+ghost use Rattle.replay_frames.specs.Frame.{slave_of, plain_of, fill_head};
 ghost use Rattle.replay_frames.specs.Frame.{slave_head, head_of, width};
 ghost use Rattle.replay_frames.specs.Inner.Short.{as_frame};
 
@@ -71,7 +71,8 @@ fn slave(line: &[u8], form: Option<u32>) -> Option<Short>
     }
 }
 
-// The number in 2 digits at `at`, none where the line ends before.
+// The number in 2 digits at `at`, none where the line ends before. `line` and `at` stay two: a frame's digits
+// stand at fixed places of its line, and a slice from there on would have to be tested for each of them.
 fn byte_at(line: &[u8], at: usize) -> Option<u32>
     ensures { NumberAs line.now at 2 result }
 {
@@ -82,10 +83,11 @@ fn byte_at(line: &[u8], at: usize) -> Option<u32>
     number(line, at, 2)
 }
 
-fn of_kind(line: &[u8], kind: u32) -> Option<Short>
-    ensures { as_frame result ≡ of_kind line.now (Some kind) }
+// The frame that a line is, without its LF, if it is one of a fixed length.
+pub fn plain(line: &[u8]) -> Option<Short>
+    ensures { as_frame result ≡ plain_of line.now }
 {
-    match (kind, line.len()) {
+    match (byte_at(line, 0)?, line.len()) {
         (0x01, 18) => clock(number(line, 2, 8), number(line, 10, 8)),
         (0x02, 8) => master(number(line, 2, 2), number(line, 4, 4)),
         (0x03, _) => slave(line, byte_at(line, 2)),
@@ -94,13 +96,6 @@ fn of_kind(line: &[u8], kind: u32) -> Option<Short>
         (0xFF, 2) => Some(Short::Run),
         _ => None,
     }
-}
-
-// The frame that a line is, without its LF, if it is one of a fixed length.
-pub fn plain(line: &[u8]) -> Option<Short>
-    ensures { as_frame result ≡ plain_of line.now }
-{
-    of_kind(line, byte_at(line, 0)?)
 }
 
 fn fill_head(byte: Option<u32>) -> Option<Line>

@@ -5,20 +5,19 @@ ghost use Rattle.std.specs.Prelude.{◌≡◌, [], ◌&&◌, ◌≤◌, length};
 ghost use Rattle.regs.specs.Log.{Leaves, LeavesBuffer, expected};
 ghost use Rattle.master.specs.Operations.{fits, lists};
 ghost use Rattle.master.specs.Operations as Master;
-ghost use Rattle.text_hex.specs.Added.{Room};
-ghost use Rattle.replay_calls.specs.Calls.{listed, within_form, lists_read};
-ghost use Rattle.replay_calls.specs.Inner.Runs.{LOG_WORDS, MOST_TEXT, Transferred};
+ghost use Rattle.replay_calls.specs.Calls.{within_form, lists_read};
+ghost use Rattle.replay_calls.specs.Inner.Runs.{listed_of, Roomy, SameSpace, Transferred};
 
 use regs::access::Ran;
 use replay_calls::form::{Form, Kind, Mode};
 use replay_calls::outcome::{clear, push_outcome};
-use text_hex::text::Text;
+use replay_calls::{Operations, Workspace};
 
 // Whether an operation is a read.
-fn has_read(kinds: &[u8]) -> bool
-    ensures { result ≡ lists_read kinds.now }
+fn has_read(operations: Operations) -> bool
+    ensures { result ≡ lists_read operations.entry.kinds.now }
 {
-    kinds.contains(&0)
+    operations.kinds.contains(&0)
 }
 
 fn read(form: Form, address: u16, room: &mut [u8], readings: &[u32], log: &mut [u32]) -> Ran
@@ -80,20 +79,23 @@ fn write_read(
 fn transact(
     form: Form,
     address: u16,
-    kinds: &[u8],
-    lengths: &[u16],
-    bytes: &[u8],
+    operations: Operations,
     room: &mut [u8],
     readings: &[u32],
     log: &mut [u32],
 ) -> Ran
     ensures { LeavesBuffer
         (expected (within_form form address
-        (lists kinds.now lengths.now (length bytes.now) (length room.old))
-        (Master.transaction (Master.listed kinds.now lengths.now bytes.now)))
+        (lists operations.entry.kinds.now operations.entry.lengths.now
+        (length operations.entry.bytes.now) (length room.old))
+        (Master.transaction (Master.listed operations.entry.kinds.now
+        operations.entry.lengths.now operations.entry.bytes.now)))
         log.old readings.now room.old tt)
         log.old log.new room.new result }
 {
+    let kinds = operations.kinds;
+    let lengths = operations.lengths;
+    let bytes = operations.bytes;
     match (form.mode, form.coded) {
         (Mode::Blocking, false) => i2c::calls::transaction(
             address, kinds, lengths, bytes, room, readings, log,
@@ -110,43 +112,41 @@ fn transact(
     }
 }
 
-// A transfer that reads into the whole of `room`.
+// A transfer that reads into the first bytes of the buffer.
 pub fn transfer(
     form: Form,
     address: u16,
-    kinds: &[u8],
-    lengths: &[u16],
-    bytes: &[u8],
-    room: &mut [u8],
+    operations: Operations,
     readings: &[u32],
-    log: &mut [u32],
-    text: &mut Text,
+    work: &mut Workspace,
 )
-    requires { (length room.old ≤ 4096)
-        × (length log.old ≡ LOG_WORDS)
-        × Room MOST_TEXT text.old }
-    ensures { Transferred form address
-        (listed kinds.now lengths.now bytes.now (length room.old))
-        readings.now text.old text.new }
+    requires few { operations.room ≤ 4096 }
+    requires room { Roomy work.old }
+    ensures same { SameSpace work.old work.new }
+    ensures ran { Transferred form address (listed_of operations.entry)
+        readings.now work.old.text work.new.text }
 {
-    let buffered = has_read(kinds);
+    let has_read = has_read(operations);
+    let bytes = operations.bytes;
+    let log = &mut *work.log;
+    let room = &mut work.buffer[..operations.room];
     clear(room);
     match form.kind {
         Kind::Read => {
             let ran = read(form, address, room, readings, log);
-            push_outcome(text, log, ran, buffered, room)
+            push_outcome(&mut work.text, log, ran, has_read.then_some(&*room))
         }
         Kind::Write => {
             let ran = write(form, address, bytes, readings, log);
-            push_outcome(text, log, ran, buffered, b"")
+            push_outcome(&mut work.text, log, ran, has_read.then_some(b""))
         }
         Kind::WriteRead => {
             let ran = write_read(form, address, bytes, room, readings, log);
-            push_outcome(text, log, ran, buffered, room)
+            push_outcome(&mut work.text, log, ran, has_read.then_some(&*room))
         }
         Kind::Transaction => {
-            let ran = transact(form, address, kinds, lengths, bytes, room, readings, log);
-            push_outcome(text, log, ran, buffered, room)
+            let ran = transact(form, address, operations, room, readings, log);
+            push_outcome(&mut work.text, log, ran, has_read.then_some(&*room))
         }
     }
 }

@@ -7,7 +7,7 @@ use replay_frames::Line;
 use text_hex::digits::is_pairs;
 
 impl Session {
-    // `ds` are the digits of the bytes.
+    // `ds` are the digits of the bytes. `Small` stays a clause, as for `enter_read`.
     pub fn enter_pairs(self, l: Line, ds: &[u8], lists: &mut Lists) -> Result<Session, Malformed>
         requires small { Small self.call }
         requires few { length ds.now ≤ longest_kept }

@@ -23,7 +23,8 @@ pub enum Wants {
     Any,
 }
 
-// How much of the lent slices the operations of the open call have filled, and how many bytes they read.
+// How much of the lent slices the operations of the open call have filled, and how many bytes they read. The counts
+// stay beside `Lists`: the slices are lent for the whole input, while the counts begin anew with each call.
 #[derive(Clone, Copy)]
 pub struct Filled {
     pub ops: usize,
@@ -31,7 +32,7 @@ pub struct Filled {
     pub reads: usize,
 }
 
-// The same, if the operations are within the limits, and how many readings the call has.
+// The same, if the operations are within the limits, and how many readings the call has. It stays a count, as those.
 #[derive(Clone, Copy)]
 pub struct Counts {
     pub filled: Option<Filled>,

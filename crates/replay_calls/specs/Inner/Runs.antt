@@ -1,11 +1,12 @@
 -- What the run of a call is lent, and what it leaves. Contracts of inner functions cite this.
-use Rattle.std.specs.Prelude.{ℕ, Bool, List, ◌≡◌, length, replicate}
+use Rattle.std.specs.Prelude.{ℕ, Bool, true, Option, Some, None, List, [], ◌≡◌, length, replicate}
+use Rattle.std.specs.Borrow.{Bor}
 use Rattle.regs.specs.Program.{Outcome}
 use Rattle.regs.specs.declared.answers.Reply.{Reply}
 use Rattle.slave.specs.declared.SlaveState.{SlaveState}
 use Rattle.text_hex.specs.Added.{Room, Added}
 use Rattle.text_hex.specs.declared.text.Text.{Text}
-use Rattle.replay_calls.specs.Calls.{Listed, listed, replayed, transfer_of, buffer_of, lists_read, has_buffer, outcome_of, outcome_text}
+use Rattle.replay_calls.specs.Calls.{Listed, listed, replayed, shown, transfer_of, buffer_of, lists_read, has_buffer, outcome_of, outcome_text}
 use Rattle.slave.specs.I2cSlave.{listen_call}
 use Rattle.replay_calls.specs.declared.form.Form.{Form}
 use Rattle.replay_calls.specs.declared.Call.{Call}
@@ -38,6 +39,15 @@ pub record SameSpace (before after : Workspace) : Type 0 where
   pub buffer_length : length after.buffer.now ≡ length before.buffer.now
   pub log_length : length after.log.now ≡ length before.log.now
   pub out_length : length after.text.out.now ≡ length before.text.out.now
+
+-- the buffer that is shown, where there is one, and its length
+abbrev pub shown_if : Option (Bor (List ℕ)) → Reply → List ℕ
+shown_if None reply = []
+shown_if (Some buffer) reply = shown true reply buffer.now
+
+abbrev pub size_if : Option (Bor (List ℕ)) → ℕ
+size_if None = 0
+size_if (Some buffer) = length buffer.now
 
 -- a call has left the outcome o: its text is added, and the slave's state is the one after it
 pub record Runs (buffered : Bool) (o : Outcome SlaveState Reply) (before after : Text) (s : SlaveState) : Type 0 where

@@ -1,17 +1,18 @@
--- `replay_run::set_config` meets its contract.
-use mathlib.Core.Bool.{false}
+-- `set_config`: `prints_none` turns the log that is left into the printed text; `room` is what `push_outcome` needs.
 use Rattle.clock_setting.specs.SetConfig.{set_config}
 use Rattle.clock_setting.proofs.Accesses.{every_access_legal}
-use Rattle.replay_calls.proofs.Prints.{room, prints_none, printed_as}
+use Rattle.replay_calls.proofs.Prints.{room, prints_none}
+use mathlib.Core.List.{[]}
+use Rattle.std.specs.Prelude.{None}
 use native.Mathlib.Omega.{arith}
 use Rattle.replay_run.proofs.set_config.Goals as goal
 
 pub push_outcome-requires : goal.push_outcome-requires
 push_outcome-requires c = let l = c.set_config-ran in
-    room l.ensures c.requires.0 l.auto.log _ 0 _ (omega arith) c.requires.1
+    room l.ensures c.requires.log l.auto.log None c.args.work.now.text (omega arith) c.requires.text
 
-pub returns : goal.returns
-returns c = let a = c.args in
+pub returns-clause-ran : goal.returns-clause-ran
+returns-clause-ran c = let a = c.args in
     let l = c.set_config-ran in
-    printed_as c.push_outcome.ensures (prints_none (set_config a.frequency a.clk) (every_access_legal a.frequency a.clk)
-    a.log.now a.readings.now tt c.requires.0 l.ensures l.auto.log false c.push_outcome.ensures.appended)
+    prints_none (set_config a.frequency a.clk) (every_access_legal a.frequency a.clk) a.work.now.log.now a.readings.now [] tt
+    c.requires.log l.ensures l.auto.log c.push_outcome.ensures
