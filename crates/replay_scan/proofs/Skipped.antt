@@ -6,8 +6,8 @@ use mathlib.Core.Bool.{Bool, true, false, not}
 use mathlib.Core.List.{List, [], ◌∷◌, ◌++◌, append_assoc, append-nil}
 use mathlib.Core.Path.{◌≡◌, refl, sym, ap, ◌∙◌}
 use lib.Dec.{ltb}
-use lib.ListN.{length, take, drop, get_or, length-append, length-drop, take-append-drop}
-use lib.Seq.{take-suc, get_or-drop, drop-drop, length-take-le}
+use lib.ListN.{length, take, drop, get_or, length-append, take-append-drop}
+use lib.Seq.{take-suc, length-take-le}
 use borrow.Author.Tests.{lt-ltb, ltb-true, ne_eqb}
 use Rattle.regs.proofs.Tests.{both_of}
 use Rattle.text_hex.specs.Text.{lines_after, digit_of}
@@ -19,19 +19,19 @@ use Rattle.replay_state.specs.Inner.Rest.{digits_more, from_line, long_line}
 use Rattle.replay_state.proofs.Long.{as_good}
 use Rattle.replay_scan.specs.Inner.Bytes.{DigitsAhead}
 
-pub skipped_none : (chunk : List ℕ) (i : ℕ) → i ≤ length chunk → DigitsAhead chunk i 0
+pub skipped_none : (chunk : List ℕ) → DigitsAhead chunk 0
 unfolding all_digits
-skipped_none chunk i h = record { digits = refl; inside = omega arith }
+skipped_none chunk = record { digits = refl; inside = omega arith }
 
-pub skipped_more : {chunk : List ℕ} {i k : ℕ}
-    → DigitsAhead chunk i k
-    → i + k < length chunk
-    → digit_of (get_or chunk (i + k) 0) < 16
-    → DigitsAhead chunk i (k + 1)
+pub skipped_more : {chunk : List ℕ} {k : ℕ}
+    → DigitsAhead chunk k
+    → k < length chunk
+    → digit_of (get_or chunk k 0) < 16
+    → DigitsAhead chunk (k + 1)
 unfolding all_digits
-skipped_more {chunk} {i} {k} p h l =
+skipped_more {chunk} {k} p h l =
     record {
-      digits = rw (add-one, take-suc (drop i chunk) k 0 (rw length-drop (omega arith)), get_or-drop, digits_joined, p.digits, lt-ltb _ _ l);
+      digits = rw (add-one, take-suc chunk k 0 h, digits_joined, p.digits, lt-ltb _ _ l);
       inside = omega arith;
     }
 
@@ -52,29 +52,27 @@ unfolding all_digits digit_of
 zero_digits = refl
 
 module _ (text : List ℕ) (size : length text ≡ longest_kept) (long : long_line text ≡ true) (chunk : List ℕ)
-    (i k : ℕ) (p : DigitsAhead chunk i k) where
+    (k : ℕ) (p : DigitsAhead chunk k) where
   -- behind k digits the line is as good as with one digit waiting, or two, by their number
   pub skipped : (odd to : Bool) → (length (digits_more odd) + k) % 2 ≡ length (digits_more to) % 2 → (line : ℕ) (h : Held) (input : List ℕ)
-      → from_line line h (text ++ digits_more odd) (drop i chunk ++ input)
-      ≡ from_line line h (text ++ digits_more to) (drop (i + k) chunk ++ input)
+      → from_line line h (text ++ digits_more odd) (chunk ++ input)
+      ≡ from_line line h (text ++ digits_more to) (drop k chunk ++ input)
   skipped odd to par line h input =
-      ap (λ (x : List ℕ). from_line line h (text ++ digits_more odd) (x ++ input)) (sym (take-append-drop k (drop i chunk)))
+      ap (λ (x : List ℕ). from_line line h (text ++ digits_more odd) (x ++ input)) (sym (take-append-drop k chunk))
       ∙ (rw (
-        append_assoc ds (drop k (drop i chunk)) input,
-        on ds (text ++ digits_more odd)
-            (drop k (drop i chunk) ++ input) p.digits,
+        append_assoc ds (drop k chunk) input,
+        on ds (text ++ digits_more odd) (drop k chunk ++ input) p.digits,
         append_assoc text (digits_more odd) ds,
-        drop-drop,
       )
       (as_good text size long h (digits_more odd ++ ds) (digits_more to) (rw length-append (some odd)) (plenty to)
       (rw (length-append, count) par) (digits_joined (digits_more odd) ds ∙ rw (zeros odd, p.digits))
-      (zeros to) line (drop (i + k) chunk ++ input)))
+      (zeros to) line (drop k chunk ++ input)))
     where
       ds : List ℕ
-      ds = take k (drop i chunk)
+      ds = take k chunk
 
       count : length ds ≡ k
-      count = length-take-le k (drop i chunk) (rw length-drop (omega (arith, p.inside)))
+      count = length-take-le k chunk p.inside
 
       plenty : (o : Bool) → 0 < length (digits_more o)
       plenty true = omega arith

@@ -1,84 +1,57 @@
 // Runs of bytes inside a line. Of a line that does not stand whole in the chunk, or
 // is longer than what is kept, as many bytes as go on with it are read in one loop.
-ghost use Rattle.std.specs.Prelude.{◌+◌, ◌≤◌, ◌≡◌, length};
-ghost use Rattle.replay_session.specs.Inner.Enter.{longest_kept};
 ghost use Rattle.replay_state.specs.Inner.Rest.{PartSound};
 ghost use Rattle.replay_scan.specs.Inner.Bytes.{DigitsAhead, KeptAhead, MovedAs};
 
 use replay_state::{LONGEST_KEPT, Part};
 use text_hex::digits::is_digit;
 
-// Where in its line the reader is behind a run, and where the run ends in the chunk.
-#[derive(Clone, Copy)]
-pub struct Moved {
-    pub part: Part,
-    pub used: usize,
-}
-
-// How many bytes from i on are digits.
-fn digits_ahead(chunk: &[u8], i: usize) -> usize
-    requires { i ≤ length chunk.now }
-    ensures { DigitsAhead chunk.now i result }
+// How many bytes the chunk begins with that are digits.
+fn digits_ahead(chunk: &[u8]) -> usize
+    ensures { DigitsAhead chunk.now result }
 {
-    let left = chunk.len() - i;
-    for k in 0..left {
-        if !is_digit(chunk[i + k]) {
+    for k in 0..chunk.len() {
+        if !is_digit(chunk[k]) {
             return k;
         }
     }
-    left
+    chunk.len()
 }
 
-// Keeps bytes from i on behind the n that are kept: up to the end
-// of the line, of the chunk, or of what is kept. How many they are.
-fn keep_ahead(chunk: &[u8], i: usize, n: usize, text: &mut [u8]) -> usize
-    requires { (i ≤ length chunk.now)
-        × (n ≤ longest_kept)
-        × (length text.old ≡ longest_kept) }
-    ensures { KeptAhead chunk.now i n text.old text.new result }
+// Keeps bytes of the chunk in `room`: up to the end of the line, of the chunk, or of the room.
+// How many they are.
+fn keep_ahead(chunk: &[u8], room: &mut [u8]) -> usize
+    ensures { KeptAhead chunk.now room.old room.new result }
 {
-    let left = chunk.len() - i;
-    let most = left.min(LONGEST_KEPT - n);
+    let most = chunk.len().min(room.len());
     for k in 0..most {
-        if chunk[i + k] == 10 {
+        if chunk[k] == b'\n' {
             return k;
         }
-        text[n + k] = chunk[i + k];
+        room[k] = chunk[k];
     }
     most
 }
 
-// Reads from i on the bytes that go on with the line.
-pub fn run(chunk: &[u8], i: usize, p: Part, text: &mut [u8]) -> Moved
-    requires { (i ≤ length chunk.now)
-        × PartSound p text.old
-        × (length text.old ≡ longest_kept) }
-    ensures { MovedAs p chunk.now i text.old text.new result }
+// Reads the bytes of the chunk that go on with the line. How many they are.
+pub fn run(part: &mut Part, chunk: &[u8], text: &mut [u8; LONGEST_KEPT]) -> usize
+    requires { PartSound part.old text.old }
+    ensures { MovedAs part.old chunk.now text.old part.new text.new result }
 {
-    match p {
-        Part::Stopped => Moved {
-            part: Part::Stopped,
-            used: i,
-        },
+    match *part {
+        Part::Stopped => 0,
         Part::Text(n) => {
-            let k = keep_ahead(chunk, i, n, text);
-            Moved {
-                part: Part::Text(n + k),
-                used: i + k,
-            }
+            let k = keep_ahead(chunk, &mut text[n..]);
+            *part = Part::Text(n + k);
+            k
         }
         Part::Long(odd) => {
-            let k = digits_ahead(chunk, i);
+            let k = digits_ahead(chunk);
             if k % 2 == 0 {
-                return Moved {
-                    part: Part::Long(odd),
-                    used: i + k,
-                };
+                return k;
             }
-            Moved {
-                part: Part::Long(!odd),
-                used: i + k,
-            }
+            *part = Part::Long(!odd);
+            k
         }
     }
 }

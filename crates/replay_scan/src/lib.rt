@@ -6,13 +6,12 @@ pub mod ahead; // whole lines of a chunk
 
 ghost use Rattle.std.specs.Prelude.{◌≡◌, [], ◌∷◌, ◌+◌, ◌<◌, ◌≤◌, length, drop, get_or};
 ghost use Rattle.replay_calls.specs.Inner.Runs.{MOST_TEXT};
-ghost use Rattle.replay_session.specs.Inner.Enter.{longest_kept};
 ghost use Rattle.replay_state.specs.Inner.Rest.{PartSound};
 ghost use Rattle.replay_scan.specs.Inner.Inside.{NoEnd, WentInside};
 
 use bytes::run;
 use replay_state::turns::{go_on, keep, skip};
-use replay_state::{Part, State, Turn};
+use replay_state::{LONGEST_KEPT, Part, State, Turn};
 
 // The state after some of a chunk, how much of it was read, and where the answers in `out` end.
 #[derive(Clone, Copy)]
@@ -23,9 +22,8 @@ pub struct Fed {
 }
 
 // A byte that is no LF.
-fn one(x: u8, s: State, text: &mut [u8], out: &mut [u8], at: usize) -> Turn
+fn one(x: u8, s: State, text: &mut [u8; LONGEST_KEPT], out: &mut [u8], at: usize) -> Turn
     requires { NoEnd x
-        × (length text.old ≡ longest_kept)
         × (at + MOST_TEXT ≤ length out.old) }
     ensures { WentInside s text.old out.old at (x ∷ []) result.state
         text.new out.new result.made [] }
@@ -37,31 +35,37 @@ fn one(x: u8, s: State, text: &mut [u8], out: &mut [u8], at: usize) -> Turn
     }
 }
 
-// A run of bytes, where one is ahead, or else a byte that is no LF.
-pub fn some(chunk: &[u8], i: usize, s: State, text: &mut [u8], out: &mut [u8], at: usize) -> Fed
-    requires { (i < length chunk.now)
-        × NoEnd (get_or chunk.now i 0)
+// A run of bytes, where the chunk begins with one, or else a byte that is no LF.
+pub fn some(
+    chunk: &[u8],
+    s: State,
+    text: &mut [u8; LONGEST_KEPT],
+    out: &mut [u8],
+    at: usize,
+) -> Fed
+    requires { (0 < length chunk.now)
+        × NoEnd (get_or chunk.now 0 0)
         × PartSound s.part text.old
-        × (length text.old ≡ longest_kept)
         × (at + MOST_TEXT ≤ length out.old) }
-    ensures { WentInside s text.old out.old at (drop i chunk.now)
+    ensures { WentInside s text.old out.old at chunk.now
         result.state text.new out.new result.made
         (drop result.used chunk.now)
-        × (i < result.used)
+        × (0 < result.used)
         × (result.used ≤ length chunk.now) }
 {
-    let m = run(chunk, i, s.part, text);
-    if i < m.used {
+    let mut part = s.part;
+    let used = run(&mut part, chunk, text);
+    if 0 < used {
         return Fed {
-            state: go_on(s, m.part, at).state,
-            used: m.used,
+            state: go_on(s, part, at).state,
+            used,
             made: at,
         };
     }
-    let t = one(chunk[i], s, text, out, at);
+    let t = one(chunk[0], s, text, out, at);
     Fed {
         state: t.state,
-        used: i + 1,
+        used: 1,
         made: t.made,
     }
 }

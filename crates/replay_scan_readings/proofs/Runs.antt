@@ -1,14 +1,15 @@
 -- The loop over readings, and the reader behind it.
-use Prim.Native.Nat.{ℕ, ◌+◌, ◌<◌, ◌≤◌}
+use Prim.Native.Nat.{ℕ, ◌+◌, ◌-◌, ◌*◌, ◌<◌, ◌≤◌, min}
 use native.Mathlib.Omega.{arith}
 use native.Mathlib.Numerals.{add-one}
-use mathlib.Core.List.{List, [], ◌++◌}
+use native.Mathlib.Nat.{min-eq_left}
+use mathlib.Core.List.{List, [], ◌∷◌, ◌++◌, append_assoc, append-nil}
 use mathlib.Core.Bool.{Bool, true, false}
 use mathlib.Core.Path.{◌≡◌, refl, sym, ap, ◌∙◌}
 use lib.Dec.{ltb, eqb}
-use lib.ListN.{length, take, drop, set, length-set}
-use lib.Seq.{take-suc-set, length-take-le}
-use borrow.Author.Tests.{lt-ltb, le-ltb, eqb-true}
+use lib.ListN.{length, take, drop, set, length-set, length-append, length-drop, take-append-drop, drop_of_length-le}
+use lib.Seq.{take-suc-set, length-take-le, drop-drop, take-append-add}
+use borrow.Author.Tests.{lt-ltb, ltb-true, ltb-false, eqb-true}
 use Rattle.regs.proofs.Tests.{both_of, false_true}
 use Rattle.std.specs.Prelude.{if◌then◌else◌, Option, Some, None}
 use Rattle.slave.specs.declared.SlaveState.{SlaveState}
@@ -25,73 +26,73 @@ use Rattle.replay_state.specs.Inner.Rest.{whole, rest, rest_of, from_line, Sound
 use Rattle.replay_state.specs.declared.Part.{Part}
 use Rattle.replay_state.specs.declared.Part.TheVariants.{Stopped, Text, Long}
 use Rattle.replay_state.specs.declared.State.{State}
-use Rattle.replay_scan_readings.specs.Inner.Run.{Written, wants_after, Run, RanAs, ready_by, ready_of, state_after}
-use Rattle.replay_scan_readings.specs.declared.Ran.{Ran}
+use Rattle.replay_scan_readings.specs.Inner.Run.{Written, wants_after, line_on, Run, RanAs, ready_by, ready_of, state_after}
 use Rattle.replay_scan_readings.proofs.Readings.{a_reading, a_line}
 
-pub run_none : (chunk : List ℕ) (i first number : ℕ) (rs : List ℕ)
-    → i ≤ length chunk
-    → length rs ≡ MOST_READINGS
-    → Run chunk i first number rs i first number rs
-run_none chunk i first number rs h z =
+-- n lines further on, and one more
+line_next : (line n : ℕ) → line < 4294967296 → line_after (line_on line n) ≡ line_on line (n + 1)
+line_next line n h = go (ltb (line_on line n) 4294967295) refl
+  where
+    go : (b : Bool) → ltb (line_on line n) 4294967295 ≡ b → (if b then line_on line n + 1 else line_on line n) ≡ line_on line (n + 1)
+    go true e = let l = ltb-true _ _ e in omega arith
+    go false e = let l = ltb-false _ _ e in omega arith
+
+pub run_none : (chunk rs : List ℕ) → Run chunk rs 0 rs
+run_none chunk rs =
     record {
-      same = λ s c w k e input. rw (le-ltb i i (omega arith));
-      onward = omega arith;
-      inside = h;
-      fits = λ l. l;
-      size = z;
+      same = λ line s c w k before h e f input.
+          let z : line_on line 0 ≡ line = omega arith in rw (z, append-nil);
+      inside = omega arith;
+      fits = omega arith;
+      size = refl;
       none = λ e. refl;
     }
 
 -- one reading of a call that wants no more operation
-one_reading : (chunk : List ℕ) (u v : ℕ)
-    → Written chunk u v
-    → (line count : ℕ) (rs : List ℕ)
-    → count < MOST_READINGS
-    → length rs ≡ MOST_READINGS
+one_reading : (chunk : List ℕ) (v : ℕ)
+    → Written chunk v
+    → (line : ℕ) (before : List ℕ)
+    → length before < MOST_READINGS
     → (s : SlaveState) (c : Call) (w : Wants) (k : Kept) → complete w ≡ true → (input : List ℕ)
-    → from_line line (within s c w k (take count rs)) [] (drop u chunk ++ input)
-    ≡ from_line (line_after line) (within s c Nothing k (take (count + 1) (set rs count v))) []
-    (drop (u + 11) chunk ++ input)
+    → from_line line (within s c w k before) [] (chunk ++ input)
+    ≡ from_line (line_after line) (within s c Nothing k (before ++ (v ∷ []))) [] (drop 11 chunk ++ input)
 unfolding printed_from
-one_reading chunk u v p line count rs less z s c w k e input =
-    let y : u + 10 + 1 ≡ u + 11 = omega arith in
-    rw (
-      (a_line chunk u v p).found (omega arith) input,
-      a_reading chunk u v p,
-      e,
-      length-take-le count rs (omega arith),
-      lt-ltb _ _ less,
-      y,
-      add-one count,
-      take-suc-set rs count v (omega arith),
-    )
+one_reading chunk v p line before less s c w k e input =
+    rw ((a_line chunk v p).found (omega arith) input, a_reading chunk v p, e, lt-ltb _ _ less)
 
-module _ {chunk : List ℕ} {i first number : ℕ} {rs₀ : List ℕ} {used count line : ℕ} {rs : List ℕ}
-    (p : Run chunk i first number rs₀ used count line rs) where
-  still : (w : Wants) → complete w ≡ true → complete (wants_after i used w) ≡ true
-  still w e = go (ltb i used)
+module _ {chunk rs₀ : List ℕ} {n : ℕ} {rs : List ℕ} (p : Run chunk rs₀ n rs) where
+  still : (w : Wants) → complete w ≡ true → complete (wants_after n w) ≡ true
+  still w e = go (ltb 0 n)
     where
       go : (b : Bool) → complete (if b then Nothing else w) ≡ true
       go true = refl
       go false = e
 
   pub run_more : (v : ℕ)
-      → Written chunk used v
-      → count < MOST_READINGS
-      → Run chunk i first number rs₀ (used + 11) (count + 1) (line_after line) (set rs count v)
+      → Written (drop (n * 11) chunk) v
+      → n < length rs
+      → Run chunk rs₀ (n + 1) (set rs n v)
   run_more v h less =
+      let z : n * 11 + 11 ≡ (n + 1) * 11 = omega arith in
       record {
-        same = λ s c w k e input.
-            p.same s c w k e input
-            ∙ rw (lt-ltb i (used + 11) (omega (arith, p.onward)))
-            (one_reading chunk used v h line count rs less p.size s c (wants_after i used w) k (still w e)
-            input);
-        onward = omega (arith, p.onward);
-        inside = omega (arith, h.inside);
-        fits = λ l. omega arith;
-        size = length-set rs count v ∙ p.size;
-        none = λ e. absurd (omega (arith, p.onward));
+        same = λ line s c w k before l e f input.
+            p.same line s c w k before l e f input
+            ∙ (one_reading (drop (n * 11) chunk) v h (line_on line n) (before ++ take n rs)
+            (rw (length-append, length-take-le n rs (omega arith)) (omega (arith, p.size)))
+            s c (wants_after n w) k (still w e) input
+            ∙ rw (
+              line_next line n l,
+              lt-ltb 0 (n + 1) (omega arith),
+              drop-drop,
+              z,
+              add-one n,
+              take-suc-set rs n v less,
+              append_assoc,
+            ));
+        inside = omega (arith, h.inside, length-drop (n * 11) chunk);
+        fits = omega (arith, p.size);
+        size = length-set rs n v ∙ p.size;
+        none = λ e. absurd (omega arith);
       }
 
 -- what `is_ready` has found
@@ -117,50 +118,96 @@ kept_any : (f : Option Filled) (ks ls bs rs rs' : List ℕ) → kept_by f (array
 kept_any None ks ls bs rs rs' = refl
 kept_any (Some f) ks ls bs rs rs' = refl
 
-module _ (s : State) (chunk : List ℕ) (i : ℕ) (rs₀ rs : List ℕ) (r : Ran) (o : Open) (part : s.part ≡ Text 0)
-    (call : s.call ≡ Some o) (wants : complete o.wants ≡ true) where
-  ran_by : Run chunk i (counts_of s.call).readings s.line rs₀ r.used r.count r.line rs → RanAs s chunk i rs₀ rs r
-  ran_by p = record { some = went; inside = p.inside; none = λ l. p.none (omega (arith, p.onward)) }
-    where
-      first : (counts_of s.call).readings ≡ o.counts.readings
-      first = rw call
+module _ (s : State) (chunk rs₀ xs : List ℕ) (n : ℕ) (ready : ready_of s ≡ true) (narrow : s.line < 4294967296) where
+  abbrev first : ℕ
+  first = (counts_of s.call).readings
 
-      went : i < r.used → (t ks ls bs b l out : List ℕ) (at : ℕ) → Sound (whole s t ks ls bs rs₀ b l)
-          → Went (whole s t ks ls bs rs₀ b l) out at (drop i chunk) (whole (state_after s r) t ks ls bs rs b l) out at (drop r.used chunk)
-      went h t ks ls bs b l out at g =
-          record {
-            same = λ input. ap (λ (x : List ℕ). take at out ++ x) (still_printed input);
-            sound =
-                record {
-                  part = omega arith;
-                  small = rw call (record {
-                    counts = record { filled = counts.filled; readings = p.fits g.small.counts.readings };
-                  });
-                  lent = record { kinds = g.lent.kinds; lengths = g.lent.lengths; bytes = g.lent.bytes; readings = p.size };
-                  text = g.text;
-                  buffer = g.buffer;
-                  log = g.log;
-                };
-          }
-        where
-          counts : Within o.counts
-          counts = rw call at g.small.counts
+  module _ (p : Run chunk (drop (min first (length rs₀)) rs₀) n xs) where
+    abbrev rs : List ℕ
+    rs = take (min first (length rs₀)) rs₀ ++ xs
 
-          still_printed : (input : List ℕ)
-              → rest (whole s t ks ls bs rs₀ b l) (drop i chunk ++ input) ≡ rest
-              (whole (state_after s r) t ks ls bs rs b l) (drop r.used chunk ++ input)
-          still_printed input =
-              rw (part, call)
-              (rw first at (p.same s.slave o.call o.wants (kept_of o.counts (arrays ks ls bs rs₀)) wants input)
-              ∙ rw (lt-ltb i r.used h, kept_any o.counts.filled ks ls bs rs₀ rs))
+    by_open : (o : Open) → s.part ≡ Text 0 → s.call ≡ Some o → complete o.wants ≡ true → 0 < n
+        → (t ks ls bs b l out : List ℕ) (at : ℕ) → Sound (whole s t ks ls bs rs₀ b l)
+        → Went (whole s t ks ls bs rs₀ b l) out at chunk
+        (whole (state_after s n (min first (length rs₀) + n)) t ks ls bs rs b l) out at (drop (n * 11) chunk)
+    by_open o part call wants h t ks ls bs b l out at g =
+        record {
+          same = λ input. ap (λ (x : List ℕ). take at out ++ x) (still_printed input);
+          sound =
+              record {
+                part = omega arith;
+                small = rw call (record { counts = record { filled = counts.filled; readings = rw call at few } });
+                lent = record { kinds = g.lent.kinds; lengths = g.lent.lengths; bytes = g.lent.bytes; readings = size };
+                text = g.text;
+                buffer = g.buffer;
+                log = g.log;
+              };
+        }
+      where
+        counts : Within o.counts
+        counts = rw call at g.small.counts
 
-pub ran : (s : State) (chunk : List ℕ) (i : ℕ) (rs₀ rs : List ℕ) (r : Ran)
+        least : min first (length rs₀) ≡ first
+        least = min-eq_left (omega (arith, g.small.counts.readings, g.lent.readings))
+
+        begun : length (take first rs₀) ≡ first
+        begun = length-take-le first rs₀ (omega (arith, g.small.counts.readings, g.lent.readings))
+
+        behind : length (drop first rs₀) + first ≡ MOST_READINGS
+        behind = rw length-drop (omega (arith, g.small.counts.readings, g.lent.readings))
+
+        p' : Run chunk (drop first rs₀) n xs
+        p' = rw least at p
+
+        fits : first + n ≤ MOST_READINGS
+        fits = omega (arith, p'.fits, behind)
+
+        few : min first (length rs₀) + n ≤ MOST_READINGS
+        few = rw least fits
+
+        size : length rs ≡ MOST_READINGS
+        size = rw (least, length-append, begun) (omega (arith, p'.size, behind))
+
+        own : first ≡ o.counts.readings
+        own = rw call
+
+        put : take (o.counts.readings + n) (take o.counts.readings rs₀ ++ xs) ≡ take o.counts.readings rs₀ ++ take n xs
+        put = rw own at (rw begun at (take-append-add (take first rs₀) xs n))
+
+        still_printed : (input : List ℕ)
+            → rest (whole s t ks ls bs rs₀ b l) (chunk ++ input) ≡ rest
+            (whole (state_after s n (min first (length rs₀) + n)) t ks ls bs rs b l) (drop (n * 11) chunk ++ input)
+        still_printed input =
+            rw (least, part, call)
+            (rw own at (p'.same s.line s.slave o.call o.wants (kept_of o.counts (arrays ks ls bs rs₀)) (take first rs₀)
+            narrow wants (omega (arith, begun, behind)) input)
+            ∙ rw (lt-ltb 0 n h, kept_any o.counts.filled ks ls bs rs₀ (take o.counts.readings rs₀ ++ xs), ← put))
+
+pub ran : (s : State) (chunk rs₀ xs : List ℕ) (n : ℕ)
     → ready_of s ≡ true
-    → Run chunk i (counts_of s.call).readings s.line rs₀ r.used r.count r.line rs
-    → RanAs s chunk i rs₀ rs r
-ran s chunk i rs₀ rs r e p =
+    → s.line < 4294967296
+    → Run chunk (drop (min (counts_of s.call).readings (length rs₀)) rs₀) n xs
+    → 0 < n
+    → RanAs s chunk rs₀ (state_after s n (min (counts_of s.call).readings (length rs₀) + n))
+    (take (min (counts_of s.call).readings (length rs₀)) rs₀ ++ xs) n
+ran s chunk rs₀ xs n e narrow p h =
     let ready = is_ready s e in
-    ran_by s chunk i rs₀ rs r ready.open_call ready.part ready.call ready.wants p
+    record {
+      went = by_open s chunk rs₀ xs n e narrow p ready.open_call ready.part ready.call ready.wants h;
+      inside = p.inside;
+      none = λ z. absurd (omega arith);
+    }
 
-pub ran_not : (s : State) (chunk : List ℕ) (i : ℕ) (rs : List ℕ) (r : Ran) → i ≤ length chunk → r.used ≡ i → RanAs s chunk i rs rs r
-ran_not s chunk i rs r h e = record { some = λ l. absurd (omega arith); inside = omega arith; none = λ l. refl }
+pub ran_not : (s : State) (chunk rs : List ℕ) → RanAs s chunk rs s rs 0
+ran_not s chunk rs =
+    record {
+      went = λ t ks ls bs b l out at g. record { same = λ input. refl; sound = g };
+      inside = omega arith;
+      none = λ z. (refl, refl);
+    }
+
+-- nothing is behind the last of the places that were lent
+pub lent_rest : (m : ℕ) (rs₀ xs : List ℕ)
+    → m ≤ length rs₀
+    → take m rs₀ ++ (xs ++ drop (length rs₀ - m) (drop m rs₀)) ≡ take m rs₀ ++ xs
+lent_rest m rs₀ xs h = rw (drop_of_length-le (drop m rs₀) {i = length rs₀ - m} (rw length-drop (omega arith)), append-nil)

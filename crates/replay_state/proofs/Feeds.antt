@@ -6,7 +6,8 @@ use native.Mathlib.Nat.{suc-min-suc}
 use mathlib.Core.List.{List, [], ◌∷◌, ◌++◌}
 use mathlib.Core.Bool.{Bool, true, false}
 use mathlib.Core.Path.{◌≡◌, refl, sym, ap, ◌∙◌}
-use lib.ListN.{length, take, drop, length-append, length-take}
+use lib.ListN.{length, take, drop, length-append, length-take, length-drop}
+use lib.Seq.{drop-drop}
 use borrow.Author.Tests.{ltb-true, ltb-false}
 use Rattle.regs.proofs.Tests.{false_true}
 use Rattle.text_hex.specs.Text.{lines_after, last_line}
@@ -70,16 +71,22 @@ module _ {v w : Whole} {chunk out₀ out : List ℕ} {n end : ℕ} (p : Feeding 
       silent (Text k) z input = absurd (false_true z)
       silent (Long o) z input = absurd (false_true z)
 
-  pub fed_more : {w' : Whole} {out' : List ℕ} {n' end' : ℕ}
-      → Went w out end (drop n chunk) w' out' end' (drop n' chunk) × (end' ≤ end + MOST_TEXT) × (n < n')
-      × (n' ≤ length chunk)
-      → length out' ≡ length out → MOST_TEXT ≤ length out - end → Feeding v chunk out₀ w' out' n' end'
-  fed_more d size room =
+  pub fed_more : {w' : Whole} {out' : List ℕ} {k end' : ℕ}
+      → Went w out end (drop n chunk) w' out' end' (drop k (drop n chunk)) × (end' ≤ end + MOST_TEXT) × (0 < k)
+      × (k ≤ length (drop n chunk))
+      → length out' ≡ length out → MOST_TEXT ≤ length out - end → Feeding v chunk out₀ w' out' (n + k) end'
+  fed_more {w'} {out'} {k} {end'} d size room =
       record {
-        went = record { same = λ input. p.went.same input ∙ d.0.same input; sound = d.0.sound };
+        went =
+            record {
+              same = λ input. p.went.same input
+                  ∙ (d.0.same input
+                  ∙ ap (λ (b : List ℕ). take end' out' ++ rest w' (b ++ input)) (drop-drop k n chunk));
+              sound = d.0.sound;
+            };
         size = size ∙ p.size;
         made = omega (arith, p.made, d.1);
-        within = d.3;
+        within = omega (arith, p.within, d.3, length-drop n chunk);
         first = λ e. absurd (omega (arith, d.2));
       }
 

@@ -38,10 +38,8 @@ differ : {u : Held} {x : List ℕ} → going u x ≡ malformed → ⊥
 differ e = let z : ◌≡◌ {A = ℕ} 0 1 = cc in omega arith
 
 -- a line ahead is no longer than what is kept
-pub ahead_short : (l : List ℕ) (i n : ℕ) → n < 8199 → length (take ((i + n) - i) l) ≤ longest_kept
-ahead_short l i n h =
-    let e : (i + n) - i ≡ n = omega arith in
-    rw (e, length-take) (omega (arith, min-le_left n (length l)))
+pub ahead_short : (l : List ℕ) (n : ℕ) → n ≤ longest_kept → length (take n l) ≤ longest_kept
+ahead_short l n h = rw length-take (omega (arith, min-le_left n (length l)))
 
 -- a state with its slices
 abbrev pub reader : State → List ℕ → Arrays → List ℕ → List ℕ → Whole
@@ -128,22 +126,21 @@ module _ (s : State) (t : List ℕ) (a : Arrays) (b l : List ℕ) (g : Sound (re
 
     -- a whole line of the chunk
     pub line_read : s.part ≡ Text 0
-        → (chunk : List ℕ) (i n : ℕ)
-        → Ahead chunk i n
-        → n < 8199
+        → (chunk : List ℕ) (n : ℕ)
+        → Ahead chunk n
+        → n ≤ longest_kept
         → (a' : Arrays) (b' l' : List ℕ)
         → length b' ≡ 4096
         → length l' ≡ LOG_WORDS
         → (out₁ out₂ : List ℕ) (e : Result Entered Malformed) (r : Turn)
-        → EnteredAs e a' out at out₁ (next_held session (frame_of (take n (drop i chunk)))) → EndedAs s.line e at out₁ out₂ r
-        → Went (reader s t a b l) out at (drop i chunk) (reader r.state t a' b' l') out₂ r.made
-        (drop (i + n + 1) chunk)
+        → EnteredAs e a' out at out₁ (next_held session (frame_of (take n chunk))) → EndedAs s.line e at out₁ out₂ r
+        → Went (reader s t a b l) out at chunk (reader r.state t a' b' l') out₂ r.made (drop (n + 1) chunk)
         × (r.made ≤ at + MOST_TEXT)
         × (begun_of r.state.part ≡ false)
     unfolding printed_from
-    line_read ep chunk i n k h a' b' l' z y out₁ out₂ e r ea d =
-        ends a' b' l' z y (drop i chunk) (drop (i + n + 1) chunk) (next_held session (frame_of (take n (drop i chunk)))) e out₁ out₂ r ea d
-        (λ input. rw (ep, k.found (omega arith) input))
+    line_read ep chunk n k h a' b' l' z y out₁ out₂ e r ea d =
+        ends a' b' l' z y chunk (drop (n + 1) chunk) (next_held session (frame_of (take n chunk))) e out₁ out₂ r ea d
+        (λ input. rw (ep, k.found h input))
 
     sizes : HeldSizes a b l
     sizes = record { lent = g.lent; buffer = g.buffer; log = g.log }

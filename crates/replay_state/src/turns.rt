@@ -5,7 +5,6 @@ ghost use Rattle.text_hex.specs.Text.{digit_of};
 ghost use Rattle.text_hex.specs.Appended.{Appended};
 ghost use Rattle.replay_calls.specs.Inner.Runs.{MOST_TEXT};
 ghost use Rattle.replay_session.specs.Session.{refusal, line_after};
-ghost use Rattle.replay_session.specs.Inner.Enter.{longest_kept};
 ghost use Rattle.replay_state.specs.Inner.Rest.{EndedAs, TurnedTo, KeptAs, LongEndedAs, long_line};
 ghost use Rattle.replay_state.specs.Inner.Rest.{stopped_at, with_part};
 
@@ -106,9 +105,8 @@ fn lengthen(x: u8, s: State, text: &[u8], out: &mut [u8], at: usize) -> Turn
 }
 
 // A byte of a line of which n bytes are kept.
-pub fn keep(x: u8, n: usize, s: State, text: &mut [u8], out: &mut [u8], at: usize) -> Turn
-    requires { (length text.old ≡ longest_kept)
-        × (at + MOST_TEXT ≤ length out.old) }
+pub fn keep(x: u8, n: usize, s: State, text: &mut [u8; LONGEST_KEPT], out: &mut [u8], at: usize) -> Turn
+    requires { at + MOST_TEXT ≤ length out.old }
     ensures { KeptAs s n x text.old at out.old out.new result
         × (text.new ≡ set text.old n x) }
 {

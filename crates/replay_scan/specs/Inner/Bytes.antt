@@ -6,29 +6,26 @@ use Rattle.replay_session.specs.Inner.Bounded.{Held}
 use Rattle.replay_session.specs.Inner.Enter.{longest_kept}
 use Rattle.replay_state.specs.Inner.Rest.{rest_of, PartSound}
 use Rattle.replay_state.specs.declared.Part.{Part}
-use Rattle.replay_scan.specs.declared.bytes.Moved.{Moved}
 
--- the k bytes from i on are digits
-pub record DigitsAhead (chunk : List ℕ) (i k : ℕ) : Type 0 where
-  pub digits : all_digits (take k (drop i chunk)) ≡ true
-  pub inside : i + k ≤ length chunk
+-- the first k bytes are digits
+pub record DigitsAhead (chunk : List ℕ) (k : ℕ) : Type 0 where
+  pub digits : all_digits (take k chunk) ≡ true
+  pub inside : k ≤ length chunk
 
--- the k bytes from i on are kept behind the n kept before, and are of the same line
-pub record KeptAhead (chunk : List ℕ) (i n : ℕ) (text₀ text : List ℕ) (k : ℕ) : Type 0 where
-  pub same : (input : List ℕ)
-      → lines_after (take n text₀) (drop i chunk ++ input) ≡ lines_after (take (n + k) text)
-      (drop (i + k) chunk ++ input)
-  pub fits : n + k ≤ longest_kept
-  pub size : length text ≡ longest_kept
-  pub inside : i + k ≤ length chunk
-  pub none : k ≡ 0 → text ≡ text₀
+-- the first k bytes stand in the room, and go on with any line
+pub record KeptAhead (chunk room₀ room : List ℕ) (k : ℕ) : Type 0 where
+  pub same : (begun input : List ℕ)
+      → lines_after begun (chunk ++ input) ≡ lines_after (begun ++ take k room) (drop k chunk ++ input)
+  pub fits : k ≤ length room
+  pub size : length room ≡ length room₀
+  pub inside : k ≤ length chunk
+  pub none : k ≡ 0 → room ≡ room₀
 
--- behind a run from i on, whatever the call is and whatever follows, the rest prints what was to be printed
-pub record MovedAs (p : Part) (chunk : List ℕ) (i : ℕ) (text₀ text : List ℕ) (r : Moved) : Type 0 where
+-- behind a run of k bytes, whatever the call is and whatever follows, the rest prints what was to be printed
+pub record MovedAs (p₀ : Part) (chunk text₀ : List ℕ) (p : Part) (text : List ℕ) (k : ℕ) : Type 0 where
   pub same : (line : ℕ) (h : Held) (input : List ℕ)
-      → rest_of p line h text₀ (drop i chunk ++ input) ≡ rest_of r.part line h text
-      (drop r.used chunk ++ input)
-  pub sound : PartSound r.part text
+      → rest_of p₀ line h text₀ (chunk ++ input) ≡ rest_of p line h text (drop k chunk ++ input)
+  pub sound : PartSound p text
   pub size : length text ≡ longest_kept
-  pub inside : r.used ≤ length chunk
-  pub none : r.used ≤ i → text ≡ text₀
+  pub inside : k ≤ length chunk
+  pub none : k ≡ 0 → (p ≡ p₀) × (text ≡ text₀)

@@ -1,5 +1,4 @@
--- `replay_scan_readings::run` meets its contract.
-use borrow.Author.Rules.{rules}
+-- `run`: `digit_values` of proofs/Words.antt reads the rule off the whole table.
 use mathlib.Core.Path.{refl}
 use Rattle.text_hex.specs.Text.{digit_of}
 use Rattle.text_hex.proofs.Tables.{every}
@@ -7,6 +6,6 @@ use Rattle.replay_scan_readings.specs.Inner.Run.{marked}
 use Rattle.replay_scan_readings.proofs.Words.{digit_values}
 use Rattle.replay_scan_readings.proofs.run.Goals as goal
 
-pub run_by-requires : goal.run_by-requires
+pub invariant_of-digits : goal.invariant_of-digits
 unfolding every marked digit_of
-run_by-requires c = (digit_values _ refl refl, search rules, search rules)
+invariant_of-digits c = record { of_bytes = digit_values _ refl refl }

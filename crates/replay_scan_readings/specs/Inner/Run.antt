@@ -1,5 +1,5 @@
 -- Lines of readings one after the other: what is still printed behind them. Contracts of inner functions cite this.
-use Rattle.std.specs.Prelude.{ℕ, ◌+◌, ◌*◌, ◌≤◌, ◌<◌, List, [], ◌++◌, Bool, true, false, ◌&&◌, ◌≡◌, ltb, eqb, length, take, drop, get_or, if◌then◌else◌, Option, Some, None}
+use Rattle.std.specs.Prelude.{ℕ, ◌+◌, ◌*◌, ◌≤◌, ◌<◌, List, [], ◌++◌, Bool, true, false, ◌&&◌, ◌≡◌, ltb, eqb, min, length, take, drop, get_or, if◌then◌else◌, Option, Some, None}
 use Rattle.slave.specs.declared.SlaveState.{SlaveState}
 use Rattle.text_hex.specs.Text.{digit_of, number_at}
 use Rattle.replay_calls.specs.Calls.{MOST_READINGS}
@@ -16,7 +16,6 @@ use Rattle.replay_state.specs.declared.Part.{Part}
 use Rattle.replay_state.specs.declared.Part.TheVariants.{Stopped, Text, Long}
 use Rattle.replay_state.specs.declared.State.{State}
 use Rattle.replay_scan_readings.specs.declared.Pair.{Pair}
-use Rattle.replay_scan_readings.specs.declared.Ran.{Ran}
 
 -- of a digit its value, and 128 of every other byte; and a table of that
 unfoldable pub marked : ℕ → ℕ
@@ -38,32 +37,40 @@ abbrev pub WordAt : List ℕ → ℕ → Option ℕ → Type 0
 WordAt chunk at None = Unit {0}
 WordAt chunk at (Some w) = number_at chunk at 8 ≡ Some w
 
--- at i stand `20`, the 8 digits of w, and an LF
-pub record Written (chunk : List ℕ) (i w : ℕ) : Type 0 where
-  pub two : get_or chunk i 0 ≡ 50
-  pub zero : get_or chunk (i + 1) 0 ≡ 48
-  pub word : number_at chunk (i + 2) 8 ≡ Some w
-  pub lf : get_or chunk (i + 10) 0 ≡ 10
-  pub inside : i + 10 < length chunk
+-- a chunk begins with `20`, the 8 digits of w, and an LF
+pub record Written (chunk : List ℕ) (w : ℕ) : Type 0 where
+  pub two : get_or chunk 0 0 ≡ 50
+  pub zero : get_or chunk 1 0 ≡ 48
+  pub word : number_at chunk 2 8 ≡ Some w
+  pub lf : get_or chunk 10 0 ≡ 10
+  pub inside : 10 < length chunk
 
-abbrev pub ReadingAt : List ℕ → ℕ → Option ℕ → Type 0
-ReadingAt chunk i None = Unit {0}
-ReadingAt chunk i (Some w) = Written chunk i w
+abbrev pub WrittenIf : List ℕ → Option ℕ → Type 0
+WrittenIf chunk None = Unit {0}
+WrittenIf chunk (Some w) = Written chunk w
 
 -- the first reading ends what the call may still want
-abbrev pub wants_after : ℕ → ℕ → Wants → Wants
-wants_after i used w = if ltb i used then Nothing else w
+abbrev pub wants_after : ℕ → Wants → Wants
+wants_after n w = if ltb 0 n then Nothing else w
 
--- from i on, readings up to `used`: whatever the call is and whatever follows, the rest prints what was to be printed
-pub record Run (chunk : List ℕ) (i first number : ℕ) (rs₀ : List ℕ) (used count line : ℕ) (rs : List ℕ) : Type 0 where
-  pub same : (s : SlaveState) (c : Call) (w : Wants) (k : Kept) → complete w ≡ true → (input : List ℕ)
-      → from_line number (within s c w k (take first rs₀)) [] (drop i chunk ++ input)
-      ≡ from_line line (within s c (wants_after i used w) k (take count rs)) [] (drop used chunk ++ input)
-  pub onward : i ≤ used
-  pub inside : used ≤ length chunk
-  pub fits : first ≤ MOST_READINGS → count ≤ MOST_READINGS
-  pub size : length rs ≡ MOST_READINGS
-  pub none : used ≡ i → rs ≡ rs₀
+-- the number of the line n lines further on: the count stops at its largest number
+abbrev pub line_on : ℕ → ℕ → ℕ
+line_on line n = min (line + n) 4294967295
+
+-- the chunk begins with n lines of readings, whose words are put into `rs`: whatever the call is, whatever readings it
+-- had before, and whatever follows, the rest prints what was to be printed
+pub record Run (chunk rs₀ : List ℕ) (n : ℕ) (rs : List ℕ) : Type 0 where
+  pub same : (line : ℕ) (s : SlaveState) (c : Call) (w : Wants) (k : Kept) (before : List ℕ)
+      → line < 4294967296
+      → complete w ≡ true
+      → length before + length rs₀ ≤ MOST_READINGS
+      → (input : List ℕ)
+      → from_line line (within s c w k before) [] (chunk ++ input)
+      ≡ from_line (line_on line n) (within s c (wants_after n w) k (before ++ take n rs)) [] (drop (n * 11) chunk ++ input)
+  pub inside : n * 11 ≤ length chunk
+  pub fits : n ≤ length rs₀
+  pub size : length rs ≡ length rs₀
+  pub none : n ≡ 0 → rs ≡ rs₀
 
 -- ---- the reader before and behind a run
 
@@ -84,12 +91,14 @@ abbrev pub reopened : Option Open → ℕ → Option Open
 reopened None count = None
 reopened (Some o) count = Some (opened o.call Nothing (with_readings o.counts count))
 
-abbrev pub state_after : State → Ran → State
-state_after s r = record { line = r.line; part = Text 0; call = reopened s.call r.count; slave = s.slave }
+-- the reader behind n lines of readings, with which the call has `count`
+abbrev pub state_after : State → ℕ → ℕ → State
+state_after s n count = record { line = line_on s.line n; part = Text 0; call = reopened s.call count; slave = s.slave }
 
--- where nothing was read, nothing was stored
-pub record RanAs (s : State) (chunk : List ℕ) (i : ℕ) (rs₀ rs : List ℕ) (r : Ran) : Type 0 where
-  pub some : i < r.used → (t ks ls bs b l out : List ℕ) (at : ℕ) → Sound (whole s t ks ls bs rs₀ b l)
-      → Went (whole s t ks ls bs rs₀ b l) out at (drop i chunk) (whole (state_after s r) t ks ls bs rs b l) out at (drop r.used chunk)
-  pub inside : r.used ≤ length chunk
-  pub none : r.used ≤ i → rs ≡ rs₀
+-- the chunk begins with n lines of readings, which are stored and behind which the reader is; where there are none,
+-- it is where it was
+pub record RanAs (s : State) (chunk rs₀ : List ℕ) (s' : State) (rs : List ℕ) (n : ℕ) : Type 0 where
+  pub went : (t ks ls bs b l out : List ℕ) (at : ℕ) → Sound (whole s t ks ls bs rs₀ b l)
+      → Went (whole s t ks ls bs rs₀ b l) out at chunk (whole s' t ks ls bs rs b l) out at (drop (n * 11) chunk)
+  pub inside : n * 11 ≤ length chunk
+  pub none : n ≡ 0 → (s' ≡ s) × (rs ≡ rs₀)

@@ -118,23 +118,22 @@ long_entered (Some l) s at = bytes_entered (taken_by l s.call (over_of (counts_o
 abbrev pub LongEndedAs : Bool → State → List ℕ → ℕ → List ℕ → List ℕ → Turn → Type 0
 LongEndedAs odd s text at out₀ out r = EndedAs s.line (if odd then not_entered else long_entered (head_of text) s at) at out₀ out r
 
--- n bytes from i on are a whole line with its LF behind it, where n is at most what is kept
-pub record Ahead (chunk : List ℕ) (i n : ℕ) : Type 0 where
+-- the first n bytes are a whole line with its LF behind it, where n is at most what is kept
+pub record Ahead (chunk : List ℕ) (n : ℕ) : Type 0 where
   pub found : n ≤ longest_kept
       → (input : List ℕ)
-      → lines_after [] (drop i chunk ++ input) ≡ take n (drop i chunk) ∷ lines_after []
-      (drop (i + n + 1) chunk ++ input)
-  pub inside : n ≤ longest_kept → i + n < length chunk
+      → lines_after [] (chunk ++ input) ≡ take n chunk ∷ lines_after [] (drop (n + 1) chunk ++ input)
+  pub inside : n ≤ longest_kept → n < length chunk
 
 -- such a line, if one was found
-abbrev pub AheadIf : List ℕ → ℕ → Option ℕ → Type 0
-AheadIf chunk i None = Unit {0}
-AheadIf chunk i (Some n) = Ahead chunk i n × (n ≤ longest_kept)
+abbrev pub AheadIf : List ℕ → Option ℕ → Type 0
+AheadIf chunk None = Unit {0}
+AheadIf chunk (Some n) = Ahead chunk n × (n ≤ longest_kept)
 
 -- and a line begins there
-abbrev pub FreshLine : Part → List ℕ → ℕ → Option ℕ → Type 0
-FreshLine p chunk i None = Unit {0}
-FreshLine p chunk i (Some n) = Ahead chunk i n × (n ≤ longest_kept) × (p ≡ Text 0)
+abbrev pub FreshLine : Part → List ℕ → Option ℕ → Type 0
+FreshLine p chunk None = Unit {0}
+FreshLine p chunk (Some n) = Ahead chunk n × (n ≤ longest_kept) × (p ≡ Text 0)
 
 -- whether the input so far ends inside a line
 abbrev pub begun_of : Part → Bool

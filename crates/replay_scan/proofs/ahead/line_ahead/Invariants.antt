@@ -1,7 +1,6 @@
--- `line_ahead`: the invariant `Scanned`: no LF is among the first n bytes. `scan_more` adds a byte that is no
--- LF, `scan_found` ends at one. The end of the range puts i + n in the chunk.
+-- `line_ahead`: the invariant `Scanned`: no LF is among the first n bytes.
 use Rattle.replay_scan_readings.proofs.Scans.{Scanned}
 use Rattle.replay_scan.proofs.ahead.line_ahead.Given as goal
 
 abbrev pub invariant-loop-n : goal.invariant-loop-n
-invariant-loop-n l = Scanned l.chunk l.i l.n
+invariant-loop-n l = Scanned l.chunk l.n
