@@ -2,12 +2,12 @@
 use Prim.Native.Nat.{ℕ}
 use mathlib.Core.List.{List}
 use mathlib.Core.Path.{◌≡◌}
-use Rattle.replay_state.specs.Inner.Rest.{Whole, whole, Sound, Went}
+use Rattle.replay_state.specs.Inner.Rest.{Out, Whole, whole, Sound, Went}
 use Rattle.replay_state.specs.declared.State.{State}
 
 -- a run of no readings has stored none
-pub stored_none : {s : State} {t ks ls bs rs rs' b l : List ℕ} {w : Whole} {out₀ out before after : List ℕ} {at end : ℕ} → rs' ≡ rs
-    → Went (whole s t ks ls bs rs' b l) out₀ at before w out end after → Went (whole s t ks ls bs rs b l) out₀ at before w out end after
+pub stored_none : {s : State} {t ks ls bs rs rs' b l : List ℕ} {w : Whole} {out₀ out : Out} {before after : List ℕ} → rs' ≡ rs
+    → Went (whole s t ks ls bs rs' b l) out₀ before w out after → Went (whole s t ks ls bs rs b l) out₀ before w out after
 stored_none e d = rw e at d
 
 -- and all is as sound behind it

@@ -3,100 +3,73 @@
 #![tactic(auto)]
 
 ghost use Rattle.std.specs.Prelude.{◌+◌, ◌<◌, ◌≤◌, length};
-ghost use Rattle.replay_calls.specs.Inner.Runs.{MOST_TEXT, SameSpace};
-ghost use Rattle.replay_session.specs.Inner.Enter.{SameLists};
-ghost use Rattle.replay_state.specs.Inner.Rest.{reader_of, Sound};
+ghost use Rattle.text_hex.specs.Added.{Room};
+ghost use Rattle.replay_calls.specs.Inner.Runs.{MOST_TEXT};
+ghost use Rattle.replay_state.specs.Inner.Rest.{SameReader, Sound, reader_of};
 ghost use Rattle.replay_scan.specs.Inner.StepsOn.{StepsOn};
 ghost use Rattle.replay_state.specs.Inner.Fed.{FedAs, Finished};
 
-use replay_calls::Workspace;
-use replay_scan::Fed;
-use replay_scan_readings::{after_run, run_readings};
-use replay_session::Lists;
-use replay_state::State;
-use replay_state::ends::{end_input, is_begun, is_stopped};
+use replay_scan_readings::{READING_LINE, run_readings};
+use replay_state::Reader;
 use replay_step::{line_feed, line_or_bytes};
 
-// A run of readings, where one is ahead, or else a line or some bytes.
-fn step(
-    chunk: &[u8],
-    i: usize,
-    s: State,
-    text: &mut [u8],
-    lists: &mut Lists,
-    work: &mut Workspace,
-    at: usize,
-) -> Fed
-    requires sound { Sound (reader_of s text.old lists.old work.old) }
-    requires room { at + MOST_TEXT ≤ length work.old.out.now }
-    requires inside { i < length chunk.now }
-    ensures same { SameLists lists.old lists.new }
-    ensures same_space { SameSpace work.old work.new }
-    ensures steps { StepsOn
-        (reader_of s text.old lists.old work.old)
-        work.old.out.now at chunk.now i
-        (reader_of result.state text.new lists.new work.new)
-        work.new.out.now result }
+// A run of readings, where the chunk begins with one, or else a line or some bytes. How many bytes
+// were read.
+fn step(reader: &mut Reader, chunk: &[u8]) -> usize
+    requires sound { Sound (reader_of reader.old) }
+    requires room { Room MOST_TEXT reader.old.work.text }
+    requires inside { 0 < length chunk.now }
+    ensures same { SameReader reader.old reader.new }
+    ensures steps { StepsOn reader.old chunk.now reader.new result }
 {
-    let r = run_readings(chunk, i, s, lists.readings);
-    if i < r.used {
-        return Fed {
-            state: after_run(s, r),
-            used: r.used,
-            made: at,
-        };
+    let mut state = reader.state;
+    let n = run_readings(&mut state, chunk, reader.lists.readings);
+    if 0 < n {
+        reader.state = state;
+        return n * READING_LINE;
     }
-    line_or_bytes(chunk, i, s, text, lists, work, at)
+    line_or_bytes(reader, chunk)
 }
 
-// Reads of the chunk what `out` has room for: each step is taken with room for the largest answer.
-pub fn feed(chunk: &[u8], s: State, text: &mut [u8], lists: &mut Lists, work: &mut Workspace) -> Fed
-    requires sound { Sound (reader_of s text.old lists.old work.old) }
-    requires room { MOST_TEXT ≤ length work.old.out.now }
-    ensures same { SameLists lists.old lists.new }
-    ensures same_space { SameSpace work.old work.new }
+// Reads of the chunk what the text has room for, from its begin on: each step is taken with room for
+// the largest answer. How many bytes were read.
+pub fn feed(reader: &mut Reader, chunk: &[u8]) -> usize
+    requires sound { Sound (reader_of reader.old) }
+    requires room { MOST_TEXT ≤ length reader.old.work.text.out.now }
+    ensures same { SameReader reader.old reader.new }
     ensures fed { FedAs
-        (reader_of s text.old lists.old work.old)
+        (reader_of reader.old)
         chunk.now
-        (reader_of result.state text.new lists.new work.new)
-        work.new.out.now result.used result.made }
+        (reader_of reader.new)
+        reader.new.work.text.out.now result reader.new.work.text.at }
 {
-    let mut state = s;
+    reader.work.text.at = 0;
     let mut used: usize = 0;
-    let mut made: usize = 0;
-    // A step says how far it has come, so there is no index to count.
+    // The count stays one by hand: each step says how many bytes it has read.
     while used < chunk.len() {
-        if is_stopped(state) {
-            return Fed {
-                state,
-                used: chunk.len(),
-                made,
-            };
+        if reader.state.is_stopped() {
+            return chunk.len();
         }
-        if work.out.len() - made < replay_calls::MOST_TEXT {
-            return Fed { state, used, made };
+        if reader.work.text.out.len() - reader.work.text.at < replay_calls::MOST_TEXT {
+            return used;
         }
-        let f = step(chunk, used, state, text, lists, work, made);
-        state = f.state;
-        used = f.used;
-        made = f.made;
+        used += step(reader, &chunk[used..]);
     }
-    Fed { state, used, made }
+    used
 }
 
 // The end of the input. A last line without LF ends as if it had one.
-pub fn finish(s: State, text: &[u8], lists: &mut Lists, work: &mut Workspace) -> usize
-    requires sound { Sound (reader_of s text.now lists.old work.old) }
-    requires room { MOST_TEXT + 13 ≤ length work.old.out.now }
-    ensures same { SameLists lists.old lists.new }
-    ensures same_space { SameSpace work.old work.new }
+pub fn finish(reader: &mut Reader)
+    requires sound { Sound (reader_of reader.old) }
+    requires room { MOST_TEXT + 13 ≤ length reader.old.work.text.out.now }
+    ensures same { SameReader reader.old reader.new }
     ensures finished { Finished
-        (reader_of s text.now lists.old work.old)
-        work.new.out.now result }
+        (reader_of reader.old)
+        reader.new.work.text.out.now reader.new.work.text.at }
 {
-    if is_begun(s) {
-        let t = line_feed(s, text, lists, work, 0);
-        return end_input(t.state, work.out, t.made);
+    reader.work.text.at = 0;
+    if reader.state.is_begun() {
+        line_feed(reader);
     }
-    end_input(s, work.out, 0)
+    reader.state.end_input(&mut reader.work.text);
 }

@@ -9,11 +9,12 @@ use lib.ListN.{length, take, drop, get_or, length-append, length-drop, take-appe
 use lib.Seq.{drop-cons, length-take-le, take-append-add, take_all}
 use Rattle.replay_session.specs.Session.{printed_from}
 use Rattle.replay_session.specs.Inner.Bounded.{next_held, holds_call}
-use Rattle.replay_session.specs.Inner.Enter.{longest_kept, arrays, session_of}
-use Rattle.replay_state.specs.Inner.Rest.{Whole, whole, rest, long_line, digits_more, PartSound, Sound, Went, with_part}
+use Rattle.replay_session.specs.Inner.Enter.{Arrays, longest_kept, session_of}
+use Rattle.replay_state.specs.Inner.Rest.{Out, so_far, Whole, rest, long_line, digits_more, PartSound, Sound, Went, with_part}
 use Rattle.replay_state.specs.declared.Part.{Part}
 use Rattle.replay_state.specs.declared.Part.TheVariants.{Stopped, Text, Long}
 use Rattle.replay_state.specs.declared.State.{State}
+use Rattle.replay_state.proofs.Steps.{reader}
 use Rattle.replay_scan.specs.Inner.Bytes.{DigitsAhead, KeptAhead, MovedAs}
 use Rattle.replay_scan.proofs.Skipped.{skipped}
 
@@ -82,29 +83,24 @@ moved_long p chunk k t odd to e g z q par stays =
     }
 
 -- the reader behind a run
-pub moved : (s : State) (p : Part) (t t' ks ls bs rs b l out : List ℕ) (at : ℕ) (chunk : List ℕ) (k : ℕ)
-    → Sound (whole s t ks ls bs rs b l)
+pub moved : (s : State) (p : Part) (t t' : List ℕ) (a : Arrays) (b l : List ℕ) (out : Out) (chunk : List ℕ) (k : ℕ)
+    → Sound (reader s t a b l)
     → MovedAs s.part chunk t p t' k
-    → Went (whole s t ks ls bs rs b l) out at chunk (whole (with_part s p) t' ks ls bs rs b l) out at (drop k chunk)
-moved s p t t' ks ls bs rs b l out at chunk k g m =
+    → Went (reader s t a b l) out chunk (reader (with_part s p) t' a b l) out (drop k chunk)
+moved s p t t' a b l out chunk k g m =
     record {
-      same = λ input. ap (λ (x : List ℕ). take at out ++ x)
-          (m.same s.line (session_of s.call s.slave (arrays ks ls bs rs)) input);
+      same = λ input. ap (λ (x : List ℕ). so_far out ++ x)
+          (m.same s.line (session_of s.session.call s.session.slave a) input);
       sound = record { part = m.sound; small = g.small; lent = g.lent; text = m.size; buffer = g.buffer; log = g.log };
     }
 
 -- a byte of a chunk
-pub byte_read : {v w : Whole} {out₀ out : List ℕ} {at end x : ℕ} (chunk : List ℕ) → 0 < length chunk → x ≡ get_or chunk 0 0
-    → Went v out₀ at (x ∷ []) w out end [] → Went v out₀ at chunk w out end (drop 1 chunk)
-byte_read {v} {out₀ = out₀} {at = at} {x = x} chunk h e d =
+pub byte_read : {v w : Whole} {out₀ out : Out} {x : ℕ} (chunk : List ℕ) → 0 < length chunk → x ≡ get_or chunk 0 0
+    → Went v out₀ (x ∷ []) w out [] → Went v out₀ chunk w out (drop 1 chunk)
+byte_read {v} {out₀ = out₀} {x = x} chunk h e d =
     let c : chunk ≡ x ∷ drop 1 chunk = rw e (drop-cons chunk 0 0 h) in
     record {
-      same = λ input. ap (λ (b : List ℕ). take at out₀ ++ rest v (b ++ input)) c
+      same = λ input. ap (λ (b : List ℕ). so_far out₀ ++ rest v (b ++ input)) c
           ∙ d.same (drop 1 chunk ++ input);
       sound = d.sound;
     }
-
--- a run of no bytes has kept none
-pub kept_text : {s : State} {t t' ks ls bs rs b l : List ℕ} {w : Whole} {out₀ out before after : List ℕ} {at end : ℕ} → t' ≡ t
-    → Went (whole s t' ks ls bs rs b l) out₀ at before w out end after → Went (whole s t ks ls bs rs b l) out₀ at before w out end after
-kept_text e d = rw e at d

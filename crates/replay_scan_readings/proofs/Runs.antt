@@ -22,7 +22,7 @@ use Rattle.replay_session.specs.declared.Wants.{Wants}
 use Rattle.replay_session.specs.declared.Wants.TheVariants.{Nothing}
 use Rattle.replay_session.specs.declared.Open.{Open}
 use Rattle.replay_session.specs.declared.Filled.{Filled}
-use Rattle.replay_state.specs.Inner.Rest.{whole, rest, rest_of, from_line, Sound, Went}
+use Rattle.replay_state.specs.Inner.Rest.{Out, so_far, whole, rest, rest_of, from_line, Sound, Went}
 use Rattle.replay_state.specs.declared.Part.{Part}
 use Rattle.replay_state.specs.declared.Part.TheVariants.{Stopped, Text, Long}
 use Rattle.replay_state.specs.declared.State.{State}
@@ -99,13 +99,13 @@ module _ {chunk rs₀ : List ℕ} {n : ℕ} {rs : List ℕ} (p : Run chunk rs₀
 record Ready (s : State) : Type 0 where
   open_call : Open
   part : s.part ≡ Text 0
-  call : s.call ≡ Some open_call
+  call : s.session.call ≡ Some open_call
   wants : complete open_call.wants ≡ true
 
 is_ready : (s : State) → ready_of s ≡ true → Ready s
-is_ready s e = go s.part s.call refl refl e
+is_ready s e = go s.part s.session.call refl refl e
   where
-    go : (q : Part) (c : Option Open) → s.part ≡ q → s.call ≡ c → ready_by q c ≡ true → Ready s
+    go : (q : Part) (c : Option Open) → s.part ≡ q → s.session.call ≡ c → ready_by q c ≡ true → Ready s
     go Stopped c f h g = absurd (false_true g)
     go (Text n) None f h g = absurd (false_true g)
     go (Text n) (Some o) f h g =
@@ -120,19 +120,19 @@ kept_any (Some f) ks ls bs rs rs' = refl
 
 module _ (s : State) (chunk rs₀ xs : List ℕ) (n : ℕ) (ready : ready_of s ≡ true) (narrow : s.line < 4294967296) where
   abbrev first : ℕ
-  first = (counts_of s.call).readings
+  first = (counts_of s.session.call).readings
 
   module _ (p : Run chunk (drop (min first (length rs₀)) rs₀) n xs) where
     abbrev rs : List ℕ
     rs = take (min first (length rs₀)) rs₀ ++ xs
 
-    by_open : (o : Open) → s.part ≡ Text 0 → s.call ≡ Some o → complete o.wants ≡ true → 0 < n
-        → (t ks ls bs b l out : List ℕ) (at : ℕ) → Sound (whole s t ks ls bs rs₀ b l)
-        → Went (whole s t ks ls bs rs₀ b l) out at chunk
-        (whole (state_after s n (min first (length rs₀) + n)) t ks ls bs rs b l) out at (drop (n * 11) chunk)
-    by_open o part call wants h t ks ls bs b l out at g =
+    by_open : (o : Open) → s.part ≡ Text 0 → s.session.call ≡ Some o → complete o.wants ≡ true → 0 < n
+        → (t ks ls bs b l : List ℕ) (out : Out) → Sound (whole s t ks ls bs rs₀ b l)
+        → Went (whole s t ks ls bs rs₀ b l) out chunk
+        (whole (state_after s n (min first (length rs₀) + n)) t ks ls bs rs b l) out (drop (n * 11) chunk)
+    by_open o part call wants h t ks ls bs b l out g =
         record {
-          same = λ input. ap (λ (x : List ℕ). take at out ++ x) (still_printed input);
+          same = λ input. ap (λ (x : List ℕ). so_far out ++ x) (still_printed input);
           sound =
               record {
                 part = omega arith;
@@ -179,17 +179,17 @@ module _ (s : State) (chunk rs₀ xs : List ℕ) (n : ℕ) (ready : ready_of s �
             (whole (state_after s n (min first (length rs₀) + n)) t ks ls bs rs b l) (drop (n * 11) chunk ++ input)
         still_printed input =
             rw (least, part, call)
-            (rw own at (p'.same s.line s.slave o.call o.wants (kept_of o.counts (arrays ks ls bs rs₀)) (take first rs₀)
+            (rw own at (p'.same s.line s.session.slave o.call o.wants (kept_of o.counts (arrays ks ls bs rs₀)) (take first rs₀)
             narrow wants (omega (arith, begun, behind)) input)
             ∙ rw (lt-ltb 0 n h, kept_any o.counts.filled ks ls bs rs₀ (take o.counts.readings rs₀ ++ xs), ← put))
 
 pub ran : (s : State) (chunk rs₀ xs : List ℕ) (n : ℕ)
     → ready_of s ≡ true
     → s.line < 4294967296
-    → Run chunk (drop (min (counts_of s.call).readings (length rs₀)) rs₀) n xs
+    → Run chunk (drop (min (counts_of s.session.call).readings (length rs₀)) rs₀) n xs
     → 0 < n
-    → RanAs s chunk rs₀ (state_after s n (min (counts_of s.call).readings (length rs₀) + n))
-    (take (min (counts_of s.call).readings (length rs₀)) rs₀ ++ xs) n
+    → RanAs s chunk rs₀ (state_after s n (min (counts_of s.session.call).readings (length rs₀) + n))
+    (take (min (counts_of s.session.call).readings (length rs₀)) rs₀ ++ xs) n
 ran s chunk rs₀ xs n e narrow p h =
     let ready = is_ready s e in
     record {
@@ -201,7 +201,7 @@ ran s chunk rs₀ xs n e narrow p h =
 pub ran_not : (s : State) (chunk rs : List ℕ) → RanAs s chunk rs s rs 0
 ran_not s chunk rs =
     record {
-      went = λ t ks ls bs b l out at g. record { same = λ input. refl; sound = g };
+      went = λ t ks ls bs b l out g. record { same = λ input. refl; sound = g };
       inside = omega arith;
       none = λ z. (refl, refl);
     }

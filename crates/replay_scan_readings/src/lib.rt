@@ -6,7 +6,7 @@ ghost use Rattle.std.specs.Prelude.{◌≡◌, ◌+◌, ◌<◌, ◌≤◌, leng
 ghost use Rattle.replay_scan_readings.specs.Inner.Run.{DigitValues, marked, PairAt, WordAt, WrittenIf};
 ghost use Rattle.replay_scan_readings.specs.Inner.Run.{Run, RanAs, ready_of, reopened, state_after};
 
-use replay_session::{Counts, Open, Wants, counts_of};
+use replay_session::{Counts, Open, Session, Wants, counts_of};
 use replay_state::{Part, State};
 
 // The bytes of a reading's line: `20`, 8 digits, and its LF.
@@ -122,7 +122,7 @@ fn run(chunk: &[u8], readings: &mut [u32]) -> usize
 fn is_ready(s: State) -> bool
     ensures { result ≡ ready_of s }
 {
-    match (s.part, s.call) {
+    match (s.part, s.session.call) {
         (Part::Text(0), Some(o)) => o.wants.is_complete(),
         _ => false,
     }
@@ -150,8 +150,10 @@ fn after_run(s: State, n: usize, count: usize) -> State
     State {
         line: s.line.saturating_add(u32::try_from(n).unwrap_or(u32::MAX)),
         part: Part::Text(0),
-        call: reopened(s.call, count),
-        ..s
+        session: Session {
+            call: reopened(s.session.call, count),
+            ..s.session
+        },
     }
 }
 
@@ -162,7 +164,7 @@ pub fn run_readings(s: &mut State, chunk: &[u8], readings: &mut [u32]) -> usize
     if !is_ready(*s) {
         return 0;
     }
-    let first = counts_of(s.call).readings.min(readings.len());
+    let first = counts_of(s.session.call).readings.min(readings.len());
     let n = run(chunk, &mut readings[first..]);
     if 0 < n {
         *s = after_run(*s, n, first + n);

@@ -14,23 +14,23 @@ use borrow.Author.Tests.{ltb-true, ltb-false, ne_eqb}
 use Rattle.regs.proofs.Tests.{both_of, false_true}
 use Rattle.text_hex.specs.Text.{lines_after, digit_of}
 use Rattle.text_hex.specs.Pairs.{all_digits, values}
-use Rattle.text_hex.specs.Appended.{Appended}
+use Rattle.text_hex.specs.Added.{Room}
+use Rattle.text_hex.proofs.Adding.{both}
 use Rattle.replay_calls.specs.Inner.Runs.{MOST_TEXT, LOG_WORDS}
 use Rattle.replay_frames.specs.Frame.{frame_of, head_of, width, bytes_frame}
 use Rattle.replay_session.specs.Session.{Next, going, malformed, refusal, line_after, onward, printed_from}
 use Rattle.replay_session.specs.Inner.Bounded.{Held, next_held, holds_call}
 use Rattle.replay_frames.specs.declared.Line.{Line}
 use Rattle.replay_session.specs.Inner.Enter.{Arrays, session_of, Lent, EnteredAs, longest_kept, counts_of, not_entered}
-use Rattle.replay_session.specs.declared.Entered.{Entered}
+use Rattle.replay_session.specs.declared.Session.{Session}
 use Rattle.replay_session.specs.declared.Malformed.{Malformed}
 use Rattle.replay_session.proofs.Enters.{enters_wide, refused, closed_small}
 use Rattle.replay_state.specs.Inner.Rest.{Whole, rest, from_line, digits_more, long_line, Sound, Went, EndedAs}
-use Rattle.replay_state.specs.Inner.Rest.{TurnedTo, KeptBy, KeptAs, long_entered, LongEndedAs, stopped_at}
+use Rattle.replay_state.specs.Inner.Rest.{Out, so_far, RefusalFits, StoppedAs, TurnedTo, KeptBy, KeptAs, long_entered, LongEndedAs, stopped_at}
 use Rattle.replay_state.specs.Inner.Rest.{with_part, begun_of, Ahead}
 use Rattle.replay_state.specs.declared.Part.{Part}
 use Rattle.replay_state.specs.declared.Part.TheVariants.{Stopped, Text, Long}
 use Rattle.replay_state.specs.declared.State.{State}
-use Rattle.replay_state.specs.declared.Turn.{Turn}
 use Rattle.replay_state.proofs.Lines.{bad_next, doomed_begun}
 use Rattle.replay_state.proofs.Long.{many, no_more, as_good, spoilt, ends_odd, ends_even}
 
@@ -40,6 +40,27 @@ differ e = let z : ◌≡◌ {A = ℕ} 0 1 = cc in omega arith
 -- a line ahead is no longer than what is kept
 pub ahead_short : (l : List ℕ) (n : ℕ) → n ≤ longest_kept → length (take n l) ≤ longest_kept
 ahead_short l n h = rw length-take (omega (arith, min-le_left n (length l)))
+
+-- where there is room, it is there for either; and a line that was malformed has printed nothing
+pub fits_any : (e : Result Session Malformed) (x : Out) → Room 13 x → RefusalFits e x
+fits_any (Ok e) x h = tt
+fits_any (Err e) x h = h
+
+pub fits_still : {a : Arrays} {x x' : Out} {to : Next Held} (e : Result Session Malformed)
+    → EnteredAs e a x x' to
+    → Room MOST_TEXT x
+    → RefusalFits e x'
+fits_still (Ok e) p h = tt
+fits_still (Err e) p h = omega (arith, p.text.appended.room, p.text.size)
+
+-- the end of a line leaves the text in its buffer
+pub record SameBuffer (x x' : Out) : Type 0 where
+  pub reference : x'.out.ghost_name ≡ x.out.ghost_name
+  pub size : length x'.out.now ≡ length x.out.now
+
+pub ended_same : (line : ℕ) (x x' : Out) (r : State) (e : Result Session Malformed) → EndedAs line e x x' r → SameBuffer x x'
+ended_same line x x' r (Ok e) p = rw p.1 (record { reference = refl; size = refl })
+ended_same line x x' r (Err e) p = record { reference = p.1.same_reference; size = p.1.size }
 
 -- a state with its slices
 abbrev pub reader : State → List ℕ → Arrays → List ℕ → List ℕ → Whole
@@ -58,42 +79,42 @@ module _ (s : State) (t : List ℕ) (a : Arrays) (b l : List ℕ) (g : Sound (re
   pub line_short : {n : ℕ} → s.part ≡ Text n → length (take n t) ≤ longest_kept
   line_short {n} e = omega (arith, text_short e, length-take-le n t (omega (arith, text_short e, g.text)))
 
-  module _ (out : List ℕ) (at : ℕ) where
+  module _ (out : Out) where
     abbrev session : Held
-    session = session_of s.call s.slave a
+    session = session_of s.session.call s.session.slave a
 
     -- a refusal is all that is still printed
-    stops : (before after t' : List ℕ) (a' : Arrays) (b' l' out' : List ℕ) (r : Turn) → length t' ≡ longest_kept → HeldSizes a' b' l'
-        → (r.state ≡ stopped_at s.line) × Appended out at (refusal s.line) 13 out' r.made
+    stops : (before after t' : List ℕ) (a' : Arrays) (b' l' : List ℕ) (out' : Out) (r : State) → length t' ≡ longest_kept → HeldSizes a' b' l'
+        → StoppedAs s.line out out' r
         → ((input : List ℕ) → rest (reader s t a b l) (before ++ input) ≡ refusal s.line)
-        → Went (reader s t a b l) out at before (reader r.state t' a' b' l') out' r.made after
+        → Went (reader s t a b l) out before (reader r t' a' b' l') out' after
     stops before after t' a' b' l' out' r lt z e f =
         rw e.0 (record {
-          same = λ input. ap (λ (x : List ℕ). take at out ++ x) (f input) ∙ (sym e.1.same ∙ sym (append-nil (take r.made out')));
+          same = λ input. ap (λ (x : List ℕ). so_far out ++ x) (f input) ∙ (sym e.1.appended.same ∙ sym (append-nil (so_far out')));
           sound = record { part = tt; small = closed_small; lent = z.lent; text = lt; buffer = z.buffer; log = z.log };
         })
 
-    pub stays : s.part ≡ Stopped → (before after : List ℕ) → Went (reader s t a b l) out at before (reader s t a b l) out at after
+    pub stays : s.part ≡ Stopped → (before after : List ℕ) → Went (reader s t a b l) out before (reader s t a b l) out after
     stays e before after = record { same = λ input. rw e; sound = g }
 
     -- a line has ended: what its frame leads to
     module _ (a' : Arrays) (b' l' : List ℕ) (z : length b' ≡ 4096) (y : length l' ≡ LOG_WORDS) (before after : List ℕ) where
-      pub ends : (to : Next Held) (e : Result Entered Malformed) (out₁ out₂ : List ℕ) (r : Turn)
-          → EnteredAs e a' out at out₁ to
-          → EndedAs s.line e at out₁ out₂ r
+      pub ends : (to : Next Held) (e : Result Session Malformed) (out₁ out₂ : Out) (r : State)
+          → EnteredAs e a' out out₁ to
+          → EndedAs s.line e out₁ out₂ r
           → ((input : List ℕ)
           → rest (reader s t a b l) (before ++ input) ≡ onward s.line to
           (λ (u : Held). printed_from next_held holds_call (line_after s.line) u
           (lines_after [] (after ++ input))))
-          → Went (reader s t a b l) out at before (reader r.state t a' b' l') out₂ r.made after
-          × (r.made ≤ at + MOST_TEXT)
-          × (begun_of r.state.part ≡ false)
-      ends malformed (Err e) out₁ out₂ r ea d f = (
-        stops before after t a' b' l' out₂ r g.text (record { lent = ea.lent; buffer = z; log = y })
-            (d.0, record { same = d.1.same ∙ rw (ea.text.same, append-nil); room = d.1.room }) f,
-        omega (arith, d.1.room),
-        rw d.0,
-      )
+          → Went (reader s t a b l) out before (reader r t a' b' l') out₂ after
+          × (out₂.at ≤ out.at + MOST_TEXT)
+          × (begun_of r.part ≡ false)
+      ends malformed (Err e) out₁ out₂ r ea d f =
+          let put = both ea.text d.1 in (
+            stops before after t a' b' l' out₂ r g.text (record { lent = ea.lent; buffer = z; log = y }) (d.0, put) f,
+            omega (arith, put.appended.room),
+            rw d.0,
+          )
       ends malformed (Ok e) out₁ out₂ r ea d f =
           let x : going (session_of e.call e.slave a') [] ≡ malformed = ea.same in absurd (differ x)
       ends (going u w) (Err e) out₁ out₂ r ea d f = let x : malformed ≡ going u w = ea.same in absurd (differ (sym x))
@@ -102,11 +123,11 @@ module _ (s : State) (t : List ℕ) (a : Arrays) (b l : List ℕ) (g : Sound (re
           let k : session_of e.call e.slave a' ≡ u = cc in
           rw (d.0, d.1) (
             record {
-              same = λ input. ap (λ (v : List ℕ). take at out ++ v) (f input)
-                  ∙ (sym (append_assoc (take at out) w _) ∙ rw (ea.text.same, k));
+              same = λ input. ap (λ (v : List ℕ). so_far out ++ v) (f input)
+                  ∙ (sym (append_assoc (so_far out) w _) ∙ rw (ea.text.appended.same, k));
               sound = record { part = omega arith; small = ea.small; lent = ea.lent; text = g.text; buffer = z; log = y };
             },
-            ea.text.room,
+            ea.text.appended.room,
             refl,
           )
 
@@ -115,11 +136,11 @@ module _ (s : State) (t : List ℕ) (a : Arrays) (b l : List ℕ) (g : Sound (re
         → (a' : Arrays) (b' l' : List ℕ)
         → length b' ≡ 4096
         → length l' ≡ LOG_WORDS
-        → (out₁ out₂ : List ℕ) (e : Result Entered Malformed) (r : Turn)
-        → EnteredAs e a' out at out₁ (next_held session (frame_of (take n t))) → EndedAs s.line e at out₁ out₂ r
-        → Went (reader s t a b l) out at (10 ∷ []) (reader r.state t a' b' l') out₂ r.made []
-        × (r.made ≤ at + MOST_TEXT)
-        × (begun_of r.state.part ≡ false)
+        → (out₁ out₂ : Out) (e : Result Session Malformed) (r : State)
+        → EnteredAs e a' out out₁ (next_held session (frame_of (take n t))) → EndedAs s.line e out₁ out₂ r
+        → Went (reader s t a b l) out (10 ∷ []) (reader r t a' b' l') out₂ []
+        × (out₂.at ≤ out.at + MOST_TEXT)
+        × (begun_of r.part ≡ false)
     unfolding lines_after printed_from
     text_lf n ep a' b' l' z y out₁ out₂ e r ea d =
         ends a' b' l' z y (10 ∷ []) [] (next_held session (frame_of (take n t))) e out₁ out₂ r ea d (λ input. rw ep)
@@ -132,11 +153,11 @@ module _ (s : State) (t : List ℕ) (a : Arrays) (b l : List ℕ) (g : Sound (re
         → (a' : Arrays) (b' l' : List ℕ)
         → length b' ≡ 4096
         → length l' ≡ LOG_WORDS
-        → (out₁ out₂ : List ℕ) (e : Result Entered Malformed) (r : Turn)
-        → EnteredAs e a' out at out₁ (next_held session (frame_of (take n chunk))) → EndedAs s.line e at out₁ out₂ r
-        → Went (reader s t a b l) out at chunk (reader r.state t a' b' l') out₂ r.made (drop (n + 1) chunk)
-        × (r.made ≤ at + MOST_TEXT)
-        × (begun_of r.state.part ≡ false)
+        → (out₁ out₂ : Out) (e : Result Session Malformed) (r : State)
+        → EnteredAs e a' out out₁ (next_held session (frame_of (take n chunk))) → EndedAs s.line e out₁ out₂ r
+        → Went (reader s t a b l) out chunk (reader r t a' b' l') out₂ (drop (n + 1) chunk)
+        × (out₂.at ≤ out.at + MOST_TEXT)
+        × (begun_of r.part ≡ false)
     unfolding printed_from
     line_read ep chunk n k h a' b' l' z y out₁ out₂ e r ea d =
         ends a' b' l' z y chunk (drop (n + 1) chunk) (next_held session (frame_of (take n chunk))) e out₁ out₂ r ea d
@@ -146,22 +167,22 @@ module _ (s : State) (t : List ℕ) (a : Arrays) (b l : List ℕ) (g : Sound (re
     sizes = record { lent = g.lent; buffer = g.buffer; log = g.log }
 
     -- the line goes on as p, where that prints the same
-    turns : (p : Part) (x : ℕ) (t' out' : List ℕ) (r : Turn)
+    turns : (p : Part) (x : ℕ) (t' : List ℕ) (out' : Out) (r : State)
         → length t' ≡ longest_kept
         → Sound (reader (with_part s p) t' a b l)
-        → TurnedTo s p at out out' r true
+        → TurnedTo s p out out' r true
         → ((input : List ℕ) → rest (reader s t a b l) (x ∷ input) ≡ rest (reader (with_part s p) t' a b l) input)
-        → Went (reader s t a b l) out at (x ∷ []) (reader r.state t' a b l) out' r.made [] × (r.made ≤ at + MOST_TEXT)
+        → Went (reader s t a b l) out (x ∷ []) (reader r t' a b l) out' [] × (out'.at ≤ out.at + MOST_TEXT)
     turns p x t' out' r lt sound d f =
-        rw (d.0, d.1) (record { same = λ input. ap (λ (v : List ℕ). take at out ++ v) (f input); sound = sound }, omega arith)
+        rw (d.0, d.1) (record { same = λ input. ap (λ (v : List ℕ). so_far out ++ v) (f input); sound = sound }, omega arith)
 
     -- the first byte that is not kept
     full_byte : (x : ℕ)
         → s.part ≡ Text longest_kept
         → (x ≡ 10 → ⊥)
-        → (out' : List ℕ) (r : Turn)
-        → TurnedTo s (Long true) at out out' r (long_line t && ltb (digit_of x) 16)
-        → Went (reader s t a b l) out at (x ∷ []) (reader r.state t a b l) out' r.made [] × (r.made ≤ at + MOST_TEXT)
+        → (out' : Out) (r : State)
+        → TurnedTo s (Long true) out out' r (long_line t && ltb (digit_of x) 16)
+        → Went (reader s t a b l) out (x ∷ []) (reader r t a b l) out' [] × (out'.at ≤ out.at + MOST_TEXT)
     unfolding lines_after all_digits digit_of
     full_byte x ep nl out' r d = go (long_line t && ltb (digit_of x) 16) refl d
       where
@@ -171,8 +192,8 @@ module _ (s : State) (t : List ℕ) (a : Arrays) (b l : List ℕ) (g : Sound (re
         digit : ltb (digit_of x) 16 ≡ true → all_digits (x ∷ []) ≡ true
         digit e = rw e
 
-        go : (q : Bool) → long_line t && ltb (digit_of x) 16 ≡ q → TurnedTo s (Long true) at out out' r q
-            → Went (reader s t a b l) out at (x ∷ []) (reader r.state t a b l) out' r.made [] × (r.made ≤ at + MOST_TEXT)
+        go : (q : Bool) → long_line t && ltb (digit_of x) 16 ≡ q → TurnedTo s (Long true) out out' r q
+            → Went (reader s t a b l) out (x ∷ []) (reader r t a b l) out' [] × (out'.at ≤ out.at + MOST_TEXT)
         go true e k =
             let long = both_of (long_line t) (ltb (digit_of x) 16) e in
             turns (Long true) x t out' r g.text
@@ -193,16 +214,16 @@ module _ (s : State) (t : List ℕ) (a : Arrays) (b l : List ℕ) (g : Sound (re
               (λ input. rw (ep, ne_eqb x 10 nl, begun)
               (doomed_begun s.line session input (t ++ (x ∷ [])) (rw length-append (omega arith))
               (λ q. ap frame_of (append_assoc t (x ∷ []) q) ∙ no_more t g.text x e q))),
-          omega (arith, k.1.room),
+          omega (arith, k.1.appended.room),
         )
 
     -- a byte of a line of which n bytes are kept
     pub text_byte : (n x : ℕ)
         → s.part ≡ Text n
         → (x ≡ 10 → ⊥)
-        → (t' out' : List ℕ) (r : Turn)
-        → KeptAs s n x t at out out' r × (t' ≡ set t n x)
-        → Went (reader s t a b l) out at (x ∷ []) (reader r.state t' a b l) out' r.made [] × (r.made ≤ at + MOST_TEXT)
+        → (t' : List ℕ) (out' : Out) (r : State)
+        → KeptAs s n x t out out' r × (t' ≡ set t n x)
+        → Went (reader s t a b l) out (x ∷ []) (reader r t' a b l) out' [] × (out'.at ≤ out.at + MOST_TEXT)
     unfolding lines_after
     text_byte n x ep nl t' out' r d = go (ltb n longest_kept) refl d.0
       where
@@ -214,9 +235,9 @@ module _ (s : State) (t : List ℕ) (a : Arrays) (b l : List ℕ) (g : Sound (re
 
         go : (q : Bool)
             → ltb n longest_kept ≡ q
-            → KeptBy s n x t at out out' r q
-            → Went (reader s t a b l) out at (x ∷ []) (reader r.state t' a b l) out' r.made []
-            × (r.made ≤ at + MOST_TEXT)
+            → KeptBy s n x t out out' r q
+            → Went (reader s t a b l) out (x ∷ []) (reader r t' a b l) out' []
+            × (out'.at ≤ out.at + MOST_TEXT)
         go true e k =
             let less : n < longest_kept = ltb-true _ _ e in
             turns (Text (n + 1)) x t' out' r size
@@ -239,9 +260,9 @@ module _ (s : State) (t : List ℕ) (a : Arrays) (b l : List ℕ) (g : Sound (re
     pub long_byte : (odd : Bool) (x : ℕ)
         → s.part ≡ Long odd
         → (x ≡ 10 → ⊥)
-        → (out' : List ℕ) (r : Turn)
-        → TurnedTo s (Long (not odd)) at out out' r (ltb (digit_of x) 16)
-        → Went (reader s t a b l) out at (x ∷ []) (reader r.state t a b l) out' r.made [] × (r.made ≤ at + MOST_TEXT)
+        → (out' : Out) (r : State)
+        → TurnedTo s (Long (not odd)) out out' r (ltb (digit_of x) 16)
+        → Went (reader s t a b l) out (x ∷ []) (reader r t a b l) out' [] × (out'.at ≤ out.at + MOST_TEXT)
     unfolding lines_after all_digits digit_of
     long_byte odd x ep nl out' r d = go (ltb (digit_of x) 16) refl d
       where
@@ -262,9 +283,9 @@ module _ (s : State) (t : List ℕ) (a : Arrays) (b l : List ℕ) (g : Sound (re
 
         go : (q : Bool)
             → ltb (digit_of x) 16 ≡ q
-            → TurnedTo s (Long (not odd)) at out out' r q
-            → Went (reader s t a b l) out at (x ∷ []) (reader r.state t a b l) out' r.made []
-            × (r.made ≤ at + MOST_TEXT)
+            → TurnedTo s (Long (not odd)) out out' r q
+            → Went (reader s t a b l) out (x ∷ []) (reader r t a b l) out' []
+            × (out'.at ≤ out.at + MOST_TEXT)
         go true e k =
             turns (Long (not odd)) x t out' r g.text
             (record {
@@ -281,21 +302,21 @@ module _ (s : State) (t : List ℕ) (a : Arrays) (b l : List ℕ) (g : Sound (re
           stops (x ∷ []) [] t a b l out' r g.text sizes k
               (λ input. rw (ep, ne_eqb x 10 nl)
               (spoilt t g.text long s.line session (digits_more odd) x e input)),
-          omega (arith, k.1.room),
+          omega (arith, k.1.appended.room),
         )
 
     -- the end of such a line
-    pub long_lf : (odd : Bool) → s.part ≡ Long odd → (out' : List ℕ) (r : Turn) → LongEndedAs odd s t at out out' r
-        → Went (reader s t a b l) out at (10 ∷ []) (reader r.state t a b l) out' r.made []
-        × (r.made ≤ at + MOST_TEXT)
-        × (begun_of r.state.part ≡ false)
+    pub long_lf : (odd : Bool) → s.part ≡ Long odd → (out' : Out) (r : State) → LongEndedAs odd s t out out' r
+        → Went (reader s t a b l) out (10 ∷ []) (reader r t a b l) out' []
+        × (out'.at ≤ out.at + MOST_TEXT)
+        × (begun_of r.part ≡ false)
     unfolding lines_after printed_from
     long_lf odd ep out' r d = go odd ep d
       where
-        go : (o : Bool) → s.part ≡ Long o → LongEndedAs o s t at out out' r
-            → Went (reader s t a b l) out at (10 ∷ []) (reader r.state t a b l) out' r.made []
-            × (r.made ≤ at + MOST_TEXT)
-            × (begun_of r.state.part ≡ false)
+        go : (o : Bool) → s.part ≡ Long o → LongEndedAs o s t out out' r
+            → Went (reader s t a b l) out (10 ∷ []) (reader r t a b l) out' []
+            × (out'.at ≤ out.at + MOST_TEXT)
+            × (begun_of r.part ≡ false)
         go true e k =
             ends a b l g.buffer g.log (10 ∷ []) [] malformed not_entered out out' r (refused g.lent) k
             (λ input. rw (e, ends_odd t g.text (rw e at g.part), bad_next session))
@@ -304,16 +325,16 @@ module _ (s : State) (t : List ℕ) (a : Arrays) (b l : List ℕ) (g : Sound (re
             long : long_line t ≡ true
             long = rw e at g.part
 
-            by : (h : Option Line) → head_of t ≡ h → EndedAs s.line (long_entered (head_of t) s at) at out out' r
-                → Went (reader s t a b l) out at (10 ∷ []) (reader r.state t a b l) out' r.made []
-                × (r.made ≤ at + MOST_TEXT)
-                × (begun_of r.state.part ≡ false)
+            by : (h : Option Line) → head_of t ≡ h → EndedAs s.line (long_entered (head_of t) s.session) out out' r
+                → Went (reader s t a b l) out (10 ∷ []) (reader r t a b l) out' []
+                × (out'.at ≤ out.at + MOST_TEXT)
+                × (begun_of r.part ≡ false)
             by None h q = let z : false ≡ true = rw h at long in absurd (false_true z)
             by (Some w) h q =
                 ends a b l g.buffer g.log (10 ∷ []) []
                 (next_held session (bytes_frame w (Some (values (drop (width w) t ++ digits_more false)))))
-                (long_entered (Some w) s at) out out' r
-                (enters_wide s.call s.slave a at out g.small g.lent
+                (long_entered (Some w) s.session) out out' r
+                (enters_wide s.session.call s.session.slave a out g.small g.lent
                 (values (drop (width w) t ++ digits_more false))
                 (many t g.text w h (48 ∷ 48 ∷ []) (omega arith)) w)
                 (rw h at q) (λ input. rw (e, ends_even t g.text long w h))

@@ -7,7 +7,8 @@ pub mod turns; // a byte, or the end of a line
 ghost use Rattle.std.specs.Prelude.{◌≡◌};
 ghost use Rattle.replay_session.specs.Session.{fresh};
 
-use replay_session::Open;
+use replay_calls::Workspace;
+use replay_session::{Lists, Session};
 use slave::SlaveState;
 
 // Where the reader is: past a malformed line; in a line of which n bytes are kept; or
@@ -26,15 +27,17 @@ pub const LONGEST_KEPT: usize = 8198;
 pub struct State {
     pub line: u32,
     pub part: Part,
-    pub call: Option<Open>,
-    pub slave: SlaveState,
+    pub session: Session,
 }
 
-// The state after a step, and where the answers in `out` end.
-#[derive(Clone, Copy)]
-pub struct Turn {
+// The reader with all that it is lent: the bytes kept of a line, the slices of the open call, and
+// the space in which a call is run and answered.
+#[derive(Drop)]
+pub struct Reader<'a> {
     pub state: State,
-    pub made: usize,
+    pub text: &'a mut [u8; LONGEST_KEPT],
+    pub lists: Lists<'a>,
+    pub work: Workspace<'a>,
 }
 
 // The slave before any call.

@@ -2,108 +2,71 @@
 #![tactic(auto)]
 
 ghost use Rattle.std.specs.Prelude.{◌≡◌, false, [], ◌∷◌, ◌+◌, ◌<◌, ◌≤◌, length};
-ghost use Rattle.replay_calls.specs.Inner.Runs.{MOST_TEXT, SameSpace};
-ghost use Rattle.replay_session.specs.Inner.Enter.{SameLists};
-ghost use Rattle.replay_state.specs.Inner.Rest.{reader_of, Sound, Went, begun_of};
+ghost use Rattle.text_hex.specs.Added.{Room};
+ghost use Rattle.replay_calls.specs.Inner.Runs.{MOST_TEXT};
+ghost use Rattle.replay_state.specs.Inner.Rest.{SameReader, Sound, Went, begun_of, reader_of};
 ghost use Rattle.replay_scan.specs.Inner.StepsOn.{StepsOn};
 
-use replay_calls::Workspace;
 use replay_enter::enter_line;
 use replay_scan::ahead::fresh_line;
-use replay_scan::{Fed, some};
-use replay_session::Lists;
-use replay_state::turns::{end_line, end_long};
-use replay_state::{Part, State, Turn};
+use replay_scan::some;
+use replay_state::turns::end_line;
+use replay_state::{Part, Reader};
 
 // An LF: it enters the line that it ends.
-pub fn line_feed(s: State, text: &[u8], lists: &mut Lists, work: &mut Workspace, at: usize) -> Turn
-    requires sound { Sound
-        (reader_of s text.now lists.old work.old) }
-    requires room { at + MOST_TEXT ≤ length work.old.out.now }
-    ensures same { SameLists lists.old lists.new }
-    ensures same_space { SameSpace work.old work.new }
+pub fn line_feed(reader: &mut Reader)
+    requires sound { Sound (reader_of reader.old) }
+    requires room { Room MOST_TEXT reader.old.work.text }
+    ensures same { SameReader reader.old reader.new }
     ensures went { Went
-        (reader_of s text.now lists.old work.old)
-        work.old.out.now at (10 ∷ [])
-        (reader_of result.state text.now lists.new work.new)
-        work.new.out.now result.made []
-        × (result.made ≤ at + MOST_TEXT)
-        × (begun_of result.state.part ≡ false) }
+        (reader_of reader.old) reader.old.work.text (10 ∷ [])
+        (reader_of reader.new) reader.new.work.text []
+        × (reader.new.work.text.at ≤ reader.old.work.text.at + MOST_TEXT)
+        × (begun_of reader.new.state.part ≡ false) }
 {
+    let s = reader.state;
     match s.part {
-        Part::Stopped => Turn { state: s, made: at },
+        Part::Stopped => {}
         Part::Text(n) => {
-            let e = enter_line(&text[..n], s.call, s.slave, lists, work, at);
-            end_line(s.line, e, work.out, at)
+            let line = &reader.text[..n];
+            let entered = enter_line(line, s.session, &mut reader.lists, &mut reader.work);
+            reader.state = end_line(s.line, entered, &mut reader.work.text);
         }
-        Part::Long(odd) => end_long(odd, s, text, work.out, at),
+        Part::Long(odd) => {
+            reader.state = s.end_long(odd, reader.text, &mut reader.work.text);
+        }
     }
 }
 
-// The end of a line that began before the chunk, or else some bytes.
-fn end_or_bytes(
-    chunk: &[u8],
-    i: usize,
-    s: State,
-    text: &mut [u8],
-    lists: &mut Lists,
-    work: &mut Workspace,
-    at: usize,
-) -> Fed
-    requires sound { Sound
-        (reader_of s text.old lists.old work.old) }
-    requires room { at + MOST_TEXT ≤ length work.old.out.now }
-    requires inside { i < length chunk.now }
-    ensures same { SameLists lists.old lists.new }
-    ensures same_space { SameSpace work.old work.new }
-    ensures steps { StepsOn
-        (reader_of s text.old lists.old work.old)
-        work.old.out.now at chunk.now i
-        (reader_of result.state text.new lists.new work.new)
-        work.new.out.now result }
+// The end of a line that began before the chunk, or else some bytes. How many bytes were read.
+fn end_or_bytes(reader: &mut Reader, chunk: &[u8]) -> usize
+    requires sound { Sound (reader_of reader.old) }
+    requires room { Room MOST_TEXT reader.old.work.text }
+    requires inside { 0 < length chunk.now }
+    ensures same { SameReader reader.old reader.new }
+    ensures steps { StepsOn reader.old chunk.now reader.new result }
 {
-    if chunk[i] == 10 {
-        let t = line_feed(s, text, lists, work, at);
-        return Fed {
-            state: t.state,
-            used: i + 1,
-            made: t.made,
-        };
+    if chunk[0] == b'\n' {
+        line_feed(reader);
+        return 1;
     }
-    some(chunk, i, s, text, work.out, at)
+    some(reader, chunk)
 }
 
-// A whole line of the chunk, where one is ahead, or else the end of a line or some bytes.
-pub fn line_or_bytes(
-    chunk: &[u8],
-    i: usize,
-    s: State,
-    text: &mut [u8],
-    lists: &mut Lists,
-    work: &mut Workspace,
-    at: usize,
-) -> Fed
-    requires sound { Sound
-        (reader_of s text.old lists.old work.old) }
-    requires room { at + MOST_TEXT ≤ length work.old.out.now }
-    requires inside { i < length chunk.now }
-    ensures same { SameLists lists.old lists.new }
-    ensures same_space { SameSpace work.old work.new }
-    ensures steps { StepsOn
-        (reader_of s text.old lists.old work.old)
-        work.old.out.now at chunk.now i
-        (reader_of result.state text.new lists.new work.new)
-        work.new.out.now result }
+// A whole line of the chunk, where it begins with one, or else the end of a line or some bytes.
+// How many bytes were read.
+pub fn line_or_bytes(reader: &mut Reader, chunk: &[u8]) -> usize
+    requires sound { Sound (reader_of reader.old) }
+    requires room { Room MOST_TEXT reader.old.work.text }
+    requires inside { 0 < length chunk.now }
+    ensures same { SameReader reader.old reader.new }
+    ensures steps { StepsOn reader.old chunk.now reader.new result }
 {
-    let Some(n) = fresh_line(s.part, chunk, i) else {
-        return end_or_bytes(chunk, i, s, text, lists, work, at);
+    let s = reader.state;
+    let Some(n) = fresh_line(s.part, chunk) else {
+        return end_or_bytes(reader, chunk);
     };
-    let end = i + n;
-    let e = enter_line(&chunk[i..end], s.call, s.slave, lists, work, at);
-    let t = end_line(s.line, e, work.out, at);
-    Fed {
-        state: t.state,
-        used: end + 1,
-        made: t.made,
-    }
+    let entered = enter_line(&chunk[..n], s.session, &mut reader.lists, &mut reader.work);
+    reader.state = end_line(s.line, entered, &mut reader.work.text);
+    n + 1
 }

@@ -2,20 +2,20 @@
 -- which `line_feed` enters, and 13 of MOST_TEXT + 13 bytes are left for `end_input`; after whole lines
 -- `finished` needs `end_input` alone.
 use native.Mathlib.Omega.{arith}
+use mathlib.Core.Path.{refl, sym, ◌∙◌}
 use Rattle.replay_state.specs.Inner.Rest.{reader_of}
-use Rattle.replay_state.proofs.Feeds.{finished, finished_line}
-use mathlib.Core.Path.{sym, ◌∙◌}
+use Rattle.replay_state.proofs.Feeds.{at_begin, finished, finished_line}
+use Rattle.replay_feed.proofs.finish.Goals.{then-is_begun, else-is_begun}
 use Rattle.replay_feed.proofs.finish.Goals as goal
 
-pub returns-then-is_begun-clause-finished : goal.returns-then-is_begun-clause-finished
-returns-then-is_begun-clause-finished c = let a = c.args in
-    finished_line (reader_of a.s a.text.now a.lists.now a.work.now)
-    c.requires.sound (sym c.is_begun.ensures ∙ c.if-is_begun.true) c.requires.room
-    c.line_feed-t.ensures.same_space.out_length c.end_input.auto.out
-    c.line_feed-t.ensures.went c.end_input.ensures
-
 pub returns-clause-finished : goal.returns-clause-finished
-returns-clause-finished c = let a = c.args in
-    finished (reader_of a.s a.text.now a.lists.now a.work.now)
-    _ (sym c.is_begun.ensures ∙ c.if-is_begun.false) (omega (arith, c.requires.room))
-    c.end_input-2.auto.out c.end_input-2.ensures
+returns-clause-finished c = let r = c.args.reader.now in
+    elim c.if-is_begun.branch [
+      then-is_begun w ↦ finished_line (reader_of r) {out₀ = at_begin r.work.text} c.requires.sound refl
+          (sym c.is_begun.ensures ∙ w.if-is_begun.true) c.requires.room
+          w.line_feed.ensures.same.work.out_length
+          w.line_feed.ensures.went (rw w.reader-is at c.end_input.ensures)
+    | else-is_begun w ↦ finished (reader_of r) (at_begin r.work.text) refl
+          (sym c.is_begun.ensures ∙ w.if-is_begun.false) (omega (arith, c.requires.room))
+          (rw w.reader-is at c.end_input.ensures)
+    ]

@@ -11,7 +11,7 @@ use Rattle.replay_session.specs.declared.Wants.{Wants}
 use Rattle.replay_session.specs.declared.Wants.TheVariants.{Nothing}
 use Rattle.replay_session.specs.declared.Counts.{Counts}
 use Rattle.replay_session.specs.declared.Open.{Open}
-use Rattle.replay_state.specs.Inner.Rest.{whole, from_line, Sound, Went}
+use Rattle.replay_state.specs.Inner.Rest.{Out, whole, from_line, Sound, Went}
 use Rattle.replay_state.specs.declared.Part.{Part}
 use Rattle.replay_state.specs.declared.Part.TheVariants.{Stopped, Text, Long}
 use Rattle.replay_state.specs.declared.State.{State}
@@ -81,7 +81,7 @@ ready_by (Text n) (Some o) = eqb n 0 && complete o.wants
 ready_by (Long odd) o = false
 
 abbrev pub ready_of : State → Bool
-ready_of s = ready_by s.part s.call
+ready_of s = ready_by s.part s.session.call
 
 abbrev pub with_readings : Counts → ℕ → Counts
 with_readings n count = record { filled = n.filled; readings = count }
@@ -93,12 +93,16 @@ reopened (Some o) count = Some (opened o.call Nothing (with_readings o.counts co
 
 -- the reader behind n lines of readings, with which the call has `count`
 abbrev pub state_after : State → ℕ → ℕ → State
-state_after s n count = record { line = line_on s.line n; part = Text 0; call = reopened s.call count; slave = s.slave }
+state_after s n count = record {
+  line = line_on s.line n;
+  part = Text 0;
+  session = record { call = reopened s.session.call count; slave = s.session.slave };
+}
 
 -- the chunk begins with n lines of readings, which are stored and behind which the reader is; where there are none,
 -- it is where it was
 pub record RanAs (s : State) (chunk rs₀ : List ℕ) (s' : State) (rs : List ℕ) (n : ℕ) : Type 0 where
-  pub went : (t ks ls bs b l out : List ℕ) (at : ℕ) → Sound (whole s t ks ls bs rs₀ b l)
-      → Went (whole s t ks ls bs rs₀ b l) out at chunk (whole s' t ks ls bs rs b l) out at (drop (n * 11) chunk)
+  pub went : (t ks ls bs b l : List ℕ) (out : Out) → Sound (whole s t ks ls bs rs₀ b l)
+      → Went (whole s t ks ls bs rs₀ b l) out chunk (whole s' t ks ls bs rs b l) out (drop (n * 11) chunk)
   pub inside : n * 11 ≤ length chunk
   pub none : n ≡ 0 → (s' ≡ s) × (rs ≡ rs₀)

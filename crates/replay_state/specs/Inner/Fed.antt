@@ -6,7 +6,7 @@ use Rattle.replay_state.specs.declared.Part.TheVariants.{Text}
 use Rattle.replay_state.specs.declared.State.{State}
 
 abbrev pub start_state : State
-start_state = record { line = 1; part = Text 0; call = None; slave = fresh }
+start_state = record { line = 1; part = Text 0; session = record { call = None; slave = fresh } }
 
 -- `feed`: some of the chunk was read, and at least a byte if there was one
 pub record FedAs (v : Whole) (chunk : List ℕ) (w : Whole) (out : List ℕ) (n end : ℕ) : Type 0 where

@@ -3,23 +3,22 @@
 use Rattle.std.specs.Prelude.{ℕ, ◌+◌, ◌≤◌, ◌<◌, List, [], ◌∷◌, ◌++◌, Bool, true, false, ◌&&◌, ◌≡◌, Option, Some, None, Result, Ok, Err, ltb, length, take, drop, if◌then◌else◌}
 use Rattle.text_hex.specs.Text.{lines_after, digit_of}
 use Rattle.text_hex.specs.Pairs.{all_digits}
-use Rattle.text_hex.specs.Appended.{Appended}
-use Rattle.replay_calls.specs.Inner.Runs.{LOG_WORDS}
+use Rattle.text_hex.specs.Added.{Room, Added}
+use Rattle.text_hex.specs.declared.text.Text as output
+use Rattle.replay_calls.specs.Inner.Runs.{LOG_WORDS, SameSpace}
 use Rattle.replay_frames.specs.Frame.{head_of, width}
 use Rattle.replay_frames.specs.declared.Line.{Line}
 use Rattle.replay_session.specs.Session.{refusal, line_after, printed_from, fresh}
 use Rattle.replay_session.specs.Inner.Bounded.{Held, next_held, holds_call}
-use Rattle.replay_session.specs.Inner.Enter.{Arrays, arrays, arrays_of, session_of, Small, Lent, longest_kept, counts_of, over_of, not_entered}
+use Rattle.replay_session.specs.Inner.Enter.{Arrays, arrays, arrays_of, session_of, Small, Lent, longest_kept, counts_of, over_of, not_entered, SameLists}
 use Rattle.replay_session.specs.Inner.Enter.{taken_by, bytes_entered}
-use Rattle.replay_session.specs.declared.Entered.{Entered}
+use Rattle.replay_session.specs.declared.Session.{Session}
 use Rattle.replay_session.specs.declared.Open.{Open}
-use Rattle.replay_session.specs.declared.Lists.{Lists}
-use Rattle.replay_calls.specs.declared.Workspace.{Workspace}
 use Rattle.replay_session.specs.declared.Malformed.{Malformed}
 use Rattle.replay_state.specs.declared.Part.{Part}
 use Rattle.replay_state.specs.declared.Part.TheVariants.{Stopped, Text, Long}
 use Rattle.replay_state.specs.declared.State.{State}
-use Rattle.replay_state.specs.declared.Turn.{Turn}
+use Rattle.replay_state.specs.declared.Reader.{Reader}
 
 -- a state of the reader with the lent slices whose contents matter or whose lengths are fixed
 pub record Whole : Type 0 where
@@ -32,9 +31,21 @@ pub record Whole : Type 0 where
 abbrev pub whole : State → List ℕ → List ℕ → List ℕ → List ℕ → List ℕ → List ℕ → List ℕ → Whole
 whole s t ks ls bs rs b l = record { state = s; text = t; lists = arrays ks ls bs rs; buffer = b; log = l }
 
--- the same of the lent structs
-abbrev pub reader_of : State → List ℕ → Lists → Workspace → Whole
-reader_of s t l w = record { state = s; text = t; lists = arrays_of l; buffer = w.buffer.now; log = w.log.now }
+-- the same of the lent struct
+abbrev pub reader_of : Reader → Whole
+reader_of r = record {
+  state = r.state;
+  text = r.text.now;
+  lists = arrays_of r.lists;
+  buffer = r.work.buffer.now;
+  log = r.work.log.now;
+}
+
+-- what is lent stays the same
+pub record SameReader (before after : Reader) : Type 0 where
+  pub text : after.text.ghost_name ≡ before.text.ghost_name
+  pub lists : SameLists before.lists after.lists
+  pub work : SameSpace before.work after.work
 
 -- of a line that is longer than what is kept, it matters only whether a digit waits: it stands as the bytes kept and
 -- one digit more, or two
@@ -53,7 +64,7 @@ rest_of (Long odd) line h text input = from_line line h (text ++ digits_more odd
 
 -- what is still printed, if the input goes on so
 abbrev pub rest : Whole → List ℕ → List ℕ
-rest w input = rest_of w.state.part w.state.line (session_of w.state.call w.state.slave w.lists) w.text input
+rest w input = rest_of w.state.part w.state.line (session_of w.state.session.call w.state.session.slave w.lists) w.text input
 
 -- the bytes kept begin a line that ends in bytes, and are digits from there on
 abbrev pub long_by : Option Line → List ℕ → Bool
@@ -70,53 +81,66 @@ PartSound (Long odd) text = long_line text ≡ true
 
 pub record Sound (w : Whole) : Type 0 where
   pub part : PartSound w.state.part w.text
-  pub small : Small w.state.call
+  pub small : Small w.state.session.call
   pub lent : Lent w.lists
   pub text : length w.text ≡ longest_kept
   pub buffer : length w.buffer ≡ 4096
   pub log : length w.log ≡ LOG_WORDS
 
+-- the text of the answers, and what stands in it so far
+abbrev pub Out : Type 0
+Out = output.Text
+
+abbrev pub so_far : Out → List ℕ
+so_far t = take t.at t.out.now
+
 -- from v to w, with `before` of the input read up to `after`: what v prints from
--- `before` on is what was put into `out`, and what w prints from `after` on
-pub record Went (v : Whole) (out₀ : List ℕ) (at : ℕ) (before : List ℕ) (w : Whole) (out : List ℕ) (end : ℕ) (after : List ℕ) : Type 0 where
-  pub same : (input : List ℕ) → take at out₀ ++ rest v (before ++ input) ≡ take end out ++ rest w (after ++ input)
+-- `before` on is what was put into the text, and what w prints from `after` on
+pub record Went (v : Whole) (out₀ : Out) (before : List ℕ) (w : Whole) (out : Out) (after : List ℕ) : Type 0 where
+  pub same : (input : List ℕ) → so_far out₀ ++ rest v (before ++ input) ≡ so_far out ++ rest w (after ++ input)
   pub sound : Sound w
 
 abbrev pub stopped_at : ℕ → State
-stopped_at line = record { line = line; part = Stopped; call = None; slave = fresh }
+stopped_at line = record { line = line; part = Stopped; session = record { call = None; slave = fresh } }
 
 abbrev pub with_part : State → Part → State
-with_part s p = record { line = s.line; part = p; call = s.call; slave = s.slave }
+with_part s p = record { line = s.line; part = p; session = s.session }
+
+-- a malformed line stops the reader, and is refused
+abbrev pub StoppedAs : ℕ → Out → Out → State → Type 0
+StoppedAs line out₀ out r = (r ≡ stopped_at line) × Added out₀ (refusal line) 13 out
+
+-- where a line is malformed there has to be room for its refusal
+abbrev pub RefusalFits : Result Session Malformed → Out → Type 0
+RefusalFits (Ok e) out = Unit {0}
+RefusalFits (Err e) out = Room 13 out
 
 -- a line ended
-abbrev pub EndedAs : ℕ → Result Entered Malformed → ℕ → List ℕ → List ℕ → Turn → Type 0
-EndedAs line (Ok e) at out₀ out r = (r ≡ record {
-  state = record { line = line_after line; part = Text 0; call = e.call; slave = e.slave };
-  made = e.end;
-})
-    × (out ≡ out₀)
-EndedAs line (Err e) at out₀ out r = (r.state ≡ stopped_at line) × Appended out₀ at (refusal line) 13 out r.made
+abbrev pub EndedAs : ℕ → Result Session Malformed → Out → Out → State → Type 0
+EndedAs line (Ok e) out₀ out r = (r ≡ record { line = line_after line; part = Text 0; session = e }) × (out ≡ out₀)
+EndedAs line (Err e) out₀ out r = StoppedAs line out₀ out r
 
 -- the line goes on as p, or is malformed
-abbrev pub TurnedTo : State → Part → ℕ → List ℕ → List ℕ → Turn → Bool → Type 0
-TurnedTo s p at out₀ out r true = (r ≡ record { state = with_part s p; made = at }) × (out ≡ out₀)
-TurnedTo s p at out₀ out r false = (r.state ≡ stopped_at s.line) × Appended out₀ at (refusal s.line) 13 out r.made
+abbrev pub TurnedTo : State → Part → Out → Out → State → Bool → Type 0
+TurnedTo s p out₀ out r true = (r ≡ with_part s p) × (out ≡ out₀)
+TurnedTo s p out₀ out r false = StoppedAs s.line out₀ out r
 
 -- a byte x kept at n, or the first that is not kept
-abbrev pub KeptBy : State → ℕ → ℕ → List ℕ → ℕ → List ℕ → List ℕ → Turn → Bool → Type 0
-KeptBy s n x text at out₀ out r true = TurnedTo s (Text (n + 1)) at out₀ out r true
-KeptBy s n x text at out₀ out r false = TurnedTo s (Long true) at out₀ out r (long_line text && ltb (digit_of x) 16)
+abbrev pub KeptBy : State → ℕ → ℕ → List ℕ → Out → Out → State → Bool → Type 0
+KeptBy s n x text out₀ out r true = TurnedTo s (Text (n + 1)) out₀ out r true
+KeptBy s n x text out₀ out r false = TurnedTo s (Long true) out₀ out r (long_line text && ltb (digit_of x) 16)
 
-abbrev pub KeptAs : State → ℕ → ℕ → List ℕ → ℕ → List ℕ → List ℕ → Turn → Type 0
-KeptAs s n x text at out₀ out r = KeptBy s n x text at out₀ out r (ltb n longest_kept)
+abbrev pub KeptAs : State → ℕ → ℕ → List ℕ → Out → Out → State → Type 0
+KeptAs s n x text out₀ out r = KeptBy s n x text out₀ out r (ltb n longest_kept)
 
 -- the end of a line that is longer than what is kept
-abbrev pub long_entered : Option Line → State → ℕ → Result Entered Malformed
-long_entered None s at = not_entered
-long_entered (Some l) s at = bytes_entered (taken_by l s.call (over_of (counts_of s.call))) s.slave at
+abbrev pub long_entered : Option Line → Session → Result Session Malformed
+long_entered None s = not_entered
+long_entered (Some l) s = bytes_entered (taken_by l s.call (over_of (counts_of s.call))) s.slave
 
-abbrev pub LongEndedAs : Bool → State → List ℕ → ℕ → List ℕ → List ℕ → Turn → Type 0
-LongEndedAs odd s text at out₀ out r = EndedAs s.line (if odd then not_entered else long_entered (head_of text) s at) at out₀ out r
+abbrev pub LongEndedAs : Bool → State → List ℕ → Out → Out → State → Type 0
+LongEndedAs odd s text out₀ out r =
+    EndedAs s.line (if odd then not_entered else long_entered (head_of text) s.session) out₀ out r
 
 -- the first n bytes are a whole line with its LF behind it, where n is at most what is kept
 pub record Ahead (chunk : List ℕ) (n : ℕ) : Type 0 where
