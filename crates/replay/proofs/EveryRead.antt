@@ -7,10 +7,10 @@ use Rattle.replay_state.specs.Inner.Rest.{rest}
 use Rattle.replay.specs.Replayed.{PrintsSession, PrintsBeginning}
 
 pub every_read : PrintsSession
-every_read w r out made p g e f =
-    let s = rw (g, e) at p.stops in
-    sym (ap printed (sym (append-nil p.came)) ∙ (p.same [] ∙ (rw (s.1, f.text, e))))
+every_read w r out made p e f =
+    let s = rw e at p.stops in
+    sym (ap printed (sym (append-nil p.came)) ∙ (p.same [] ∙ (rw (s.1, f.text))))
 
 pub cut_input : PrintsBeginning
-cut_input w r out made p e f =
-    (rw e at f.text, λ more. record { behind = rest w (p.left ++ more); whole = p.same more })
+cut_input w r e out made p h f =
+    (rw h at f.text, λ more. record { behind = rest w (p.left ++ more); whole = p.same more })

@@ -1,149 +1,81 @@
 // Moves bytes: from standard input to the reader, and its answers to standard output.
-ghost use Rattle.std.specs.Prelude.{◌≡◌, ◌+◌, ◌<◌, ◌≤◌, length};
-ghost use Rattle.replay_calls.specs.Inner.Runs.{MOST_TEXT, Roomy, SameSpace};
-ghost use Rattle.replay_session.specs.Inner.Enter.{arrays_of, Lent, SameLists, longest_kept};
-ghost use Rattle.replay_state.specs.Inner.Rest.{reader_of, Sound};
-ghost use Rattle.replay.specs.Replayed.{Unfed, FedFrom, ReadAll, AtEnd};
+ghost use Rattle.std.specs.Prelude.{◌≡◌, ◌+◌, ◌≤◌, length};
+ghost use Rattle.replay_calls.specs.Inner.Runs.{LOG_WORDS, MOST_TEXT};
+ghost use Rattle.replay_session.specs.Inner.Enter.{arrays_of, longest_kept, Lent};
+ghost use Rattle.replay_state.specs.Inner.Rest.{SameReader, Sound, reader_of};
+ghost use Rattle.replay.specs.Replayed.{FedAll, ReadAll, AtEnd};
 
-use replay_calls::Workspace;
-use replay_scan::Fed;
-use replay_session::Lists;
-use replay_state::State;
-use replay_state::ends::start;
+use replay_state::{Reader, State};
 use std::io::Print;
 use text_stdin::reads::{End, read_some};
 
-// The bytes of the chunk that were read and are not yet fed, and how the input stands behind them.
+// A write of the answers has failed.
 #[derive(Clone, Copy)]
-struct Span {
-    at: usize,
-    filled: usize,
-    end: End,
-}
+pub struct Unwritten;
 
-// Where the reader stands, how the input does, and whether all answers so far were written.
-#[derive(Clone, Copy)]
-pub struct Read {
-    pub state: State,
-    pub end: End,
-    pub written: bool,
-}
-
-// The same, or, where there are none, those of the next read.
-fn unfed(rt: HostRuntime, chunk: &mut [u8], at: usize, filled: usize) -> Span
-    ensures { Unfed chunk.old at filled chunk.new result }
+// Writes the text of the answers, and says whether that failed.
+pub fn fails_to_write(rt: HostRuntime, reader: &Reader) -> bool
+    requires { reader.now.work.text.at ≤ length reader.now.work.text.out.now }
 {
-    if at < filled {
-        return Span {
-            at,
-            filled,
-            end: End::Open,
-        };
-    }
-    let got = read_some(rt, chunk);
-    Span {
-        at: 0,
-        filled: got.count,
-        end: got.end,
-    }
+    let made = reader.work.text.at;
+    rt.stdout()
+        .write_all(&reader.work.text.out[..made])
+        .is_err()
 }
 
-// Feeds what is not yet fed, as far as `out` has room. Says how far.
-fn feed_from(
-    chunk: &[u8],
-    at: usize,
-    filled: usize,
-    s: State,
-    text: &mut [u8],
-    lists: &mut Lists,
-    work: &mut Workspace,
-) -> Fed
-    requires some { at < filled }
-    requires inside { filled ≤ length chunk.now }
-    requires sound { Sound (reader_of s text.old lists.old work.old) }
-    requires room { MOST_TEXT ≤ length work.old.out.now }
-    ensures same { SameLists lists.old lists.new }
-    ensures same_space { SameSpace work.old work.new }
-    ensures fed { FedFrom
-        (reader_of s text.old lists.old work.old)
-        chunk.now at filled
-        (reader_of result.state text.new lists.new work.new)
-        work.new.out.now result }
+// Feeds all bytes of a read, and writes the answers on the way. Says whether all were written.
+fn feed_all(rt: HostRuntime, reader: &mut Reader, bytes: &[u8]) -> bool
+    requires sound { Sound (reader_of reader.old) }
+    requires room { MOST_TEXT ≤ length reader.old.work.text.out.now }
+    ensures same { SameReader reader.old reader.new }
+    ensures fed { FedAll (reader_of reader.old) bytes.now (reader_of reader.new) result }
 {
-    let f = replay_feed::feed(&chunk[at..filled], s, text, lists, work);
-    Fed {
-        state: f.state,
-        used: at + f.used,
-        made: f.made,
+    let mut left = bytes;
+    while !left.is_empty() {
+        let used = replay_feed::feed(reader, left);
+        left = &left[used..];
+        if fails_to_write(rt, reader) {
+            return false;
+        }
     }
-}
-
-// Writes the first `made` bytes of the answers' buffer, and says whether that failed.
-fn fails_to_write(rt: HostRuntime, work: &Workspace, made: usize) -> bool
-    requires { made ≤ length work.now.out.now }
-{
-    rt.stdout().write_all(&work.out[..made]).is_err()
+    true
 }
 
 // Reads to the end of the input, and writes answers on the way; a read or a write that fails ends it
 // too. A proved loop ends, so it takes a number of turns that no run uses up.
-pub fn read_all(
-    rt: HostRuntime,
-    chunk: &mut [u8],
-    text: &mut [u8],
-    lists: &mut Lists,
-    work: &mut Workspace,
-) -> Read
-    requires text { length text.old ≡ longest_kept }
-    requires lent { Lent (arrays_of lists.old) }
-    requires space { Roomy work.old 13 }
-    ensures same { SameLists lists.old lists.new }
-    ensures same_space { SameSpace work.old work.new }
-    ensures read { ReadAll (reader_of result.state text.new lists.new work.new) result }
+pub fn read_all(rt: HostRuntime, chunk: &mut [u8], reader: &mut Reader) -> Result<End, Unwritten>
+    requires text { length reader.old.text.now ≡ longest_kept }
+    requires lent { Lent (arrays_of reader.old.lists) }
+    requires buffer { length reader.old.work.buffer.now ≡ 4096 }
+    requires log { length reader.old.work.log.now ≡ LOG_WORDS }
+    requires room { MOST_TEXT + 13 ≤ length reader.old.work.text.out.now }
+    ensures same { SameReader reader.old reader.new }
+    ensures read { ReadAll (reader_of reader.new) result }
 {
-    let mut state = start();
-    let mut at: usize = 0;
-    let mut filled: usize = 0;
+    reader.state = State::start();
     for turn in 0..u64::MAX {
-        let u = unfed(rt, chunk, at, filled);
-        let from = u.at;
-        filled = u.filled;
-        if filled == 0 {
-            return Read {
-                state,
-                end: u.end,
-                written: true,
-            };
+        let got = read_some(rt, chunk);
+        if got.count == 0 {
+            return Ok(got.end);
         }
-        let f = feed_from(chunk, from, filled, state, text, lists, work);
-        state = f.state;
-        at = f.used;
-        let made = f.made;
-        if fails_to_write(rt, work, made) {
-            return Read {
-                state,
-                end: End::Open,
-                written: false,
-            };
+        if !feed_all(rt, reader, &chunk[..got.count]) {
+            return Err(Unwritten);
         }
     }
-    Read {
-        state,
-        end: End::OutOfTurns,
-        written: true,
-    }
+    Ok(End::OutOfTurns)
 }
 
-// What is printed at the end of the input; nothing where it has not ended.
-pub fn at_end(end: End, s: State, text: &[u8], lists: &mut Lists, work: &mut Workspace) -> usize
-    requires sound { Sound (reader_of s text.now lists.old work.old) }
-    requires room { MOST_TEXT + 13 ≤ length work.old.out.now }
-    ensures same { SameLists lists.old lists.new }
-    ensures same_space { SameSpace work.old work.new }
-    ensures printed { AtEnd end (reader_of s text.now lists.old work.old) work.new.out.now result }
+// Puts what is printed at the end of the input; nothing where it has not ended.
+pub fn at_end(end: End, reader: &mut Reader)
+    requires sound { Sound (reader_of reader.old) }
+    requires room { MOST_TEXT + 13 ≤ length reader.old.work.text.out.now }
+    ensures same { SameReader reader.old reader.new }
+    ensures printed { AtEnd end (reader_of reader.old)
+        reader.new.work.text.out.now reader.new.work.text.at }
 {
     if end == End::Ended {
-        return replay_feed::finish(s, text, lists, work);
+        replay_feed::finish(reader);
+        return;
     }
-    0
+    reader.work.text.at = 0;
 }

@@ -8,7 +8,8 @@ mod input; // standard input, read to its end
 
 use replay_calls::Workspace;
 use replay_session::Lists;
-use std::io::Print;
+use replay_state::{Reader, State};
+use text_hex::text::Text;
 use text_stdin::report;
 
 fn main(rt: HostRuntime) {
@@ -21,20 +22,30 @@ fn main(rt: HostRuntime) {
     let mut buffer = [0u8; 4096];
     let mut log = [0u32; 16384];
     let mut out = [0u8; 262144];
-    let mut lists = Lists {
+    let lists = Lists {
         kinds: &mut kinds,
         lengths: &mut lengths,
         bytes: &mut bytes,
         readings: &mut readings,
     };
-    let mut work = Workspace {
+    let answers = Text::new(&mut out, 0);
+    let work = Workspace {
         buffer: &mut buffer,
         log: &mut log,
-        out: &mut out,
+        text: answers,
     };
-    let r = input::read_all(rt, &mut chunk, &mut text, &mut lists, &mut work);
-    let end = r.end;
-    let made = input::at_end(end, r.state, &text, &mut lists, &mut work);
-    let written = rt.stdout().write_all(&work.out[..made]).is_ok();
-    report::stopped(rt, b"replay", written && r.written, end);
+    let mut reader = Reader {
+        state: State::start(),
+        text: &mut text,
+        lists,
+        work,
+    };
+    match input::read_all(rt, &mut chunk, &mut reader) {
+        Ok(end) => {
+            input::at_end(end, &mut reader);
+            let written = !input::fails_to_write(rt, &reader);
+            report::stopped(rt, b"replay", written, end);
+        }
+        Err(_) => report::unwritten(rt, b"replay"),
+    }
 }

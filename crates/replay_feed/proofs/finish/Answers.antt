@@ -11,11 +11,11 @@ use Rattle.replay_feed.proofs.finish.Goals as goal
 pub returns-clause-finished : goal.returns-clause-finished
 returns-clause-finished c = let r = c.args.reader.now in
     elim c.if-is_begun.branch [
-      then-is_begun w ↦ finished_line (reader_of r) {out₀ = at_begin r.work.text} c.requires.sound refl
+      | then-is_begun w ↦ finished_line (reader_of r) {out₀ = at_begin r.work.text} c.requires.sound refl
           (sym c.is_begun.ensures ∙ w.if-is_begun.true) c.requires.room
           w.line_feed.ensures.same.work.out_length
           w.line_feed.ensures.went (rw w.reader-is at c.end_input.ensures)
-    | else-is_begun w ↦ finished (reader_of r) (at_begin r.work.text) refl
+      | else-is_begun w ↦ finished (reader_of r) (at_begin r.work.text) refl
           (sym c.is_begun.ensures ∙ w.if-is_begun.false) (omega (arith, c.requires.room))
           (rw w.reader-is at c.end_input.ensures)
     ]

@@ -1,41 +1,26 @@
--- `read_all`: `read_on` takes the bytes that are left or those of one more read, `feed_on` what `feed_from` did with
--- them; `read_last` closes the exit at a read that brought nothing, `left_off` those at a failed write and behind the
--- last turn.
-use mathlib.Core.Path.{refl, ◌∙◌}
-use native.Mathlib.Omega.{arith}
+-- `read_all`: `feed_on` takes the bytes of one read that were fed; `read_last` closes the exit at a read that brought
+-- nothing, `left_off` that at a failed write.
 use borrow.Author.Rules.{rules}
-use Rattle.replay.proofs.Moving.{starts, read_on, read_last, feed_on, left_off}
+use Rattle.replay.proofs.Moving.{starts, read_last, feed_on, left_off}
 use Rattle.replay.proofs.input.read_all.Goals as goal
 
 pub loop-turn-init : goal.loop-turn-init
 loop-turn-init c = (
-  rw c.start-state.ensures (starts c.args.text.now c.args.lists.now c.args.work.now c.requires.text c.requires.lent c.requires.space),
-  search rules,
+  starts _ _ c.start-reader.ensures c.requires.text c.requires.lent c.requires.buffer c.requires.log c.requires.room,
   search rules,
 )
 
-pub returns-then-filled-eq0-clause-read : goal.returns-then-filled-eq0-clause-read
-returns-then-filled-eq0-clause-read c =
-    let u = c.unfed-u in
-    read_last c.loop-turn.invariant.0 u.new.chunk u.result u.ensures c.if-filled-eq0.true
+pub returns-then-got-eq0-clause-read : goal.returns-then-got-eq0-clause-read
+returns-then-got-eq0-clause-read c =
+    read_last c.loop-turn.invariant.0 c.read_some-got.ensures c.if-got-eq0.true
 
-pub returns-then-fails_to_write-clause-read : goal.returns-then-fails_to_write-clause-read
-returns-then-fails_to_write-clause-read c =
-    let u = c.unfed-u in
-    let m = read_on c.loop-turn.invariant.0 u.new.chunk u.result u.ensures c.if-filled-eq0.false in
-    left_off (feed_on m.0 c.feed_from-f.ensures.fed c.feed_from-f.ensures.same_space.out_length) refl
+pub returns-then-not-feed_all-clause-read : goal.returns-then-not-feed_all-clause-read
+returns-then-not-feed_all-clause-read c =
+    left_off c.loop-turn.invariant.0 c.read_some-got.ensures c.if-got-eq0.false _ c.if-not-feed_all.ensures.fed
 
 pub loop-turn-preserved : goal.loop-turn-preserved
-loop-turn-preserved c =
-    let u = c.unfed-u in
-    let m = read_on c.loop-turn.invariant.0 u.new.chunk u.result u.ensures c.if-filled-eq0.false in
-    let f = c.feed_from-f.ensures in (
-      feed_on m.0 f.fed f.same_space.out_length,
-      search rules,
-      search rules,
-    )
-
-pub returns-clause-read : goal.returns-clause-read
-returns-clause-read c =
-    let p = c.loop-turn.invariant.0 in
-    left_off p (omega (arith, p.most, c.loop-turn-test.false))
+loop-turn-preserved c = (
+  feed_on c.loop-turn.invariant.0 c.read_some-got.ensures c.if-got-eq0.false c.if-not-feed_all.ensures.fed
+      c.feed_all.ensures.same.work.out_length,
+  search rules,
+)
