@@ -30,8 +30,9 @@ pub struct Operations<'a> {
     pub room: usize,
 }
 
-// What the run of a call is lent: the read or listen buffer, the log, and the text of the answers. `Roomy` says of
-// it what a run needs; it stays a clause, since the text's room shrinks with each answer.
+// What the run of a call is lent: the read or listen buffer, the log, and the text of the answers.
+// `Roomy` says of it what a run needs; it stays a clause, since the text's room shrinks with each
+// answer.
 #[derive(Drop)]
 pub struct Workspace<'a> {
     pub buffer: &'a mut [u8],

@@ -16,9 +16,9 @@ use replay_frames::{Short, head_of, plain, width};
 use replay_session::{Lists, Malformed, Open, Session};
 use slave::SlaveState;
 
-// The end of a call: it is run, or refused with 20. Says the slave's state after it. `Roomy` stays a clause: the
-// room of the text shrinks with each answer, so no field of the workspace could hold the fact. `Small` stays one
-// because the methods of a session that ask nothing take every call.
+// The end of a call: it is run, or refused with 20. Says the slave's state after it. `Roomy` stays a
+// clause: the room of the text shrinks with each answer, so no field of the workspace could hold the
+// fact. `Small` stays one because the methods of a session that ask nothing take every call.
 fn run_call(o: Open, s: SlaveState, lists: &Lists, work: &mut Workspace) -> SlaveState
     requires small { Within o.counts }
     requires lent { Lent (arrays_of lists.now) }
@@ -43,6 +43,8 @@ fn run_call(o: Open, s: SlaveState, lists: &Lists, work: &mut Workspace) -> Slav
     replay_run::run(o.call, operations, readings, s, work)
 }
 
+// The end of a call, where one is open. `session`, `lists` and `work` stay three: a session goes by
+// value from frame to frame, the lists are only looked at here, and the workspace is written to.
 fn enter_run(session: Session, lists: &Lists, work: &mut Workspace) -> Result<Session, Malformed>
     requires small { Small session.call }
     requires lent { Lent (arrays_of lists.now) }

@@ -71,8 +71,9 @@ fn slave(line: &[u8], form: Option<u32>) -> Option<Short>
     }
 }
 
-// The number in 2 digits at `at`, none where the line ends before. `line` and `at` stay two: a frame's digits
-// stand at fixed places of its line, and a slice from there on would have to be tested for each of them.
+// The number in 2 digits at `at`, none where the line ends before. `line` and `at` stay two: a frame's
+// digits stand at fixed places of its line, and a slice from there on would have to be tested for each
+// of them.
 fn byte_at(line: &[u8], at: usize) -> Option<u32>
     ensures { NumberAs line.now at 2 result }
 {

@@ -1,4 +1,5 @@
-// Any call: it runs its driver on the readings, and prints the log, the read or listen buffer, and the reply.
+// Any call: it runs its driver on the readings, and prints the log, the read or listen buffer, and the
+// reply.
 #![tactic(auto)]
 
 ghost use Rattle.std.specs.Prelude.{◌≡◌, true, false, [], ◌≤◌};
@@ -15,7 +16,8 @@ use replay_calls::outcome::push_outcome;
 use replay_calls::{Call, Operations, Workspace};
 use slave::SlaveState;
 
-// A listen buffer above 4,096 bytes is refused with 20.
+// A listen buffer above 4,096 bytes is refused with 20. `readings`, `s` and `work` stay three: the
+// first is read, the state goes in and comes out by value, and the workspace is written to.
 fn listen(n: u16, s: SlaveState, readings: &[u32], work: &mut Workspace) -> SlaveState
     requires { Roomy work.old }
     ensures same { SameSpace work.old work.new }
@@ -44,7 +46,8 @@ fn set_config(frequency: u32, clk: u32, readings: &[u32], work: &mut Workspace)
     push_outcome(&mut work.text, log, ran, None);
 }
 
-// Runs a call that is within the limits, and says the slave's state after it.
+// Runs a call that is within the limits, and says the slave's state after it. `operations` and
+// `readings` stay two: of the calls beneath only a transfer has operations.
 pub fn run(
     call: Call,
     operations: Operations,

@@ -20,6 +20,9 @@ fn has_read(operations: Operations) -> bool
     operations.kinds.contains(&0)
 }
 
+// `read`, `write` and `write_read` stay three: each picks the public call of its own kind, and those
+// differ in what they are lent: a room, bytes, or both. `form`, `address`, `readings` and `log` stay
+// parameters, as those calls take them.
 fn read(form: Form, address: u16, room: &mut [u8], readings: &[u32], log: &mut [u32]) -> Ran
     ensures { LeavesBuffer
         (expected (within_form form address (fits (length room.old)) (Master.read (length room.old)))

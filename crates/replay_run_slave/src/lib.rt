@@ -19,7 +19,9 @@ fn is_listen(request: Request) -> bool
     matches!(request, Request::Listen)
 }
 
-// Any call, with the bytes of a response, and with so many places to listen into.
+// Any call, with the bytes of a response, and with so many places to listen into. `s`, `readings` and
+// `work` stay three: the state goes in and comes out by value, and one of the other two is read and one
+// written to.
 pub fn call(
     request: Request,
     bytes: &[u8],

@@ -26,8 +26,9 @@ impl Session {
         }
     }
 
-    // A read operation of m bytes. `Small` stays a clause of the methods that add: `enter_call`, `enter_wide` and
-    // `enter_reading` take every open call, and a type that holds the fact would ask it of their callers too.
+    // A read operation of m bytes. `Small` stays a clause of the methods that add: `enter_call`,
+    // `enter_wide` and `enter_reading` take every open call, and a type that holds the fact would ask
+    // it of their callers too.
     pub fn enter_read(self, m: u16, lists: &mut Lists) -> Result<Session, Malformed>
         requires { Small self.call }
         ensures entered { result ≡ read_entered m self.call self.slave }

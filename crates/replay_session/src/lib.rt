@@ -23,8 +23,9 @@ pub enum Wants {
     Any,
 }
 
-// How much of the lent slices the operations of the open call have filled, and how many bytes they read. The counts
-// stay beside `Lists`: the slices are lent for the whole input, while the counts begin anew with each call.
+// How much of the lent slices the operations of the open call have filled, and how many bytes they
+// read. The counts stay beside `Lists`: the slices are lent for the whole input, while the counts begin
+// anew with each call.
 #[derive(Clone, Copy)]
 pub struct Filled {
     pub ops: usize,
@@ -32,7 +33,8 @@ pub struct Filled {
     pub reads: usize,
 }
 
-// The same, if the operations are within the limits, and how many readings the call has. It stays a count, as those.
+// The same, if the operations are within the limits, and how many readings the call has. It stays a
+// count, as those.
 #[derive(Clone, Copy)]
 pub struct Counts {
     pub filled: Option<Filled>,

@@ -2,14 +2,16 @@
 ghost use Rattle.std.specs.Prelude.{◌≡◌, ◌≤◌, true, set};
 ghost use Rattle.text_hex.specs.Pairs.{whole_pairs};
 ghost use Rattle.replay_session.specs.Inner.Enter.{no_counts, over_of, more, added_to, one_reading};
-ghost use Rattle.replay_session.specs.Inner.Enter.{Few, FewIf, Within, SameLists, arrays_of, stored, with_reading, PutBehind};
+ghost use Rattle.replay_session.specs.Inner.Enter.{Few, FewIf, Within, SameLists};
+ghost use Rattle.replay_session.specs.Inner.Enter.{arrays_of, stored, with_reading, PutBehind};
 
 use super::{Counts, Filled, Lists};
 use text_hex::digits::{put, put_bytes};
 
 impl Filled {
-    // With one more operation, of b bytes to write and m to read, unless that is beyond the limits. The struct stays
-    // written out: all of its fields change, so that `..self` would leave none to take over.
+    // With one more operation, of b bytes to write and m to read, unless that is beyond the limits. The
+    // struct stays written out: all of its fields change, so that `..self` would leave none to take
+    // over.
     #[tactic(auto, unfolding(crate::specs::Inner::Enter::more))]
     fn added(self, b: usize, m: usize) -> Option<Filled>
         requires few { Few self }
@@ -80,8 +82,8 @@ impl Counts {
 }
 
 impl<'a> Lists<'a> {
-    // An operation of this kind and length, where the operations are within the limits. The kind stays a number:
-    // it is stored as one in the list that the master's calls are lent, as C lends it.
+    // An operation of this kind and length, where the operations are within the limits. The kind stays
+    // a number: it is stored as one in the list that the master's calls are lent, as C lends it.
     pub fn put_operation(&mut self, filled: Option<Filled>, kind: u8, length: u16)
         ensures same { SameLists self.old self.new }
         ensures put { arrays_of self.new ≡ stored filled (arrays_of self.old) kind length }
@@ -92,8 +94,9 @@ impl<'a> Lists<'a> {
         }
     }
 
-    // The bytes that pairs of digits write, behind those of the call. That `ds` are pairs stays a clause: a type for
-    // it would be made once, by the caller that has tested them, and be taken apart here again.
+    // The bytes that pairs of digits write, behind those of the call. That `ds` are pairs stays a
+    // clause: a type for it would be made once, by the caller that has tested them, and be taken apart
+    // here again.
     pub fn put_pairs(&mut self, filled: Option<Filled>, ds: &[u8])
         requires pairs { whole_pairs ds.now ≡ true }
         requires few { FewIf filled }
