@@ -1,5 +1,6 @@
 // The form of a master's transfer: a number of four bits in the input, and a value of these types behind it.
-ghost use Rattle.replay_calls.specs.Form.{Formed};
+ghost use Rattle.std.specs.Prelude.{◌≡◌};
+ghost use Rattle.replay_calls.specs.Form.{form_by, Formed};
 
 // Which of the master's calls it is: bits 0 and 1.
 #[derive(Clone, Copy)]
@@ -31,15 +32,11 @@ pub struct Form {
 #[derive(Clone, Copy)]
 pub struct NoForm;
 
-impl TryFrom<u32> for Form {
-    type Error = NoForm;
-
-    ghost try_from_gives = { Formed };
-
-    fn try_from(bits: u32) -> Result<Form, NoForm> {
-        if 16 <= bits {
-            return Err(NoForm);
-        }
+impl Form {
+    // The form that the bits of a number say: any number of 8 or more is with a code.
+    pub fn by_bits(bits: u32) -> Form
+        ensures { result ≡ form_by bits }
+    {
         let kind = match bits % 4 {
             0 => Kind::Read,
             1 => Kind::Write,
@@ -52,6 +49,19 @@ impl TryFrom<u32> for Form {
             Mode::Async
         };
         let coded = 8 <= bits;
-        Ok(Form { kind, mode, coded })
+        Form { kind, mode, coded }
+    }
+}
+
+impl TryFrom<u32> for Form {
+    type Error = NoForm;
+
+    ghost try_from_gives = { Formed };
+
+    fn try_from(bits: u32) -> Result<Form, NoForm> {
+        if 16 <= bits {
+            return Err(NoForm);
+        }
+        Ok(Form::by_bits(bits))
     }
 }
