@@ -31,6 +31,7 @@ fn feed_all(rt: HostRuntime, reader: &mut Reader, bytes: &[u8]) -> bool
     ensures fed { FedAll (reader_of reader.old) bytes.now (reader_of reader.new) result }
 {
     let mut left = bytes;
+    // The loop stays a `while` over what is left: each call of `feed` says how much it has read.
     while !left.is_empty() {
         let used = replay_feed::feed(reader, left);
         left = &left[used..];

@@ -15,6 +15,8 @@ use replay_step::{line_feed, line_or_bytes};
 
 // A run of readings, where the chunk begins with one, or else a line or some bytes. How many bytes
 // were read.
+// `chunk` stays beside the reader, since it is another part of the input at each step. That it has a byte,
+// and the text its room, stay clauses: each step takes of both, and the loop of `feed` looks at them.
 fn step(reader: &mut Reader, chunk: &[u8]) -> usize
     requires sound { Sound (reader_of reader.old) }
     requires room { Room MOST_TEXT reader.old.work.text }

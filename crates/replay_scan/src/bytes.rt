@@ -34,6 +34,7 @@ fn keep_ahead(chunk: &[u8], room: &mut [u8]) -> usize
 }
 
 // Reads the bytes of the chunk that go on with the line. How many they are.
+// The count stays a number where none go on: 0 bytes are a count as any other.
 pub fn run(part: &mut Part, chunk: &[u8], text: &mut [u8; LONGEST_KEPT]) -> usize
     requires { PartSound part.old text.old }
     ensures { MovedAs part.old chunk.now text.old part.new text.new result }

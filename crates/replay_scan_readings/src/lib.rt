@@ -36,6 +36,7 @@ impl<'a> Digits<'a> {
         self.values[at] as u64
     }
 
+    // `at` stays a number beside the chunk: it is a constant place in the one line that is looked at.
     // Two bytes from `at` on: their sum, and the number that they write.
     fn pair(&self, chunk: &[u8], at: usize) -> Pair
         requires { at + 2 ≤ length chunk.now }
@@ -79,6 +80,7 @@ impl<'a> Digits<'a> {
         None
     }
 
+    // `chunk` and `readings` stay two parameters: one is what came, the other the call's, and both shrink.
     // Reads the readings that the chunk begins with, as many as there are places for. How many they are.
     fn run(&self, chunk: &[u8], readings: &mut [u32]) -> usize
         ensures { Run chunk.now readings.old result readings.new }
@@ -158,6 +160,7 @@ fn after_run(s: State, n: usize, count: usize) -> State
 }
 
 // Reads the readings that the chunk begins with, behind those that the call has. How many they are.
+// The count stays a number where the chunk begins with none: 0 readings are a count as any other.
 pub fn run_readings(s: &mut State, chunk: &[u8], readings: &mut [u32]) -> usize
     ensures { RanAs s.old chunk.now readings.old s.new readings.new result }
 {

@@ -18,6 +18,7 @@ use text_hex::text::Text;
 const MALFORMED: u32 = 21;
 
 // A malformed line is answered with its number.
+// `line` and `out` stay two parameters, and the room a clause: the text is the workspace's, and fills up.
 pub fn refuse(line: u32, out: &mut Text)
     requires { Room 13 out.old }
     ensures { Added out.old (refusal line) 13 out.new }
@@ -92,6 +93,7 @@ impl State {
     }
 
     // A byte of a line of which n bytes are kept. The first that is not kept may make it a long one.
+    // n stays beside the text, as the part of the state holds it: the bytes behind it are of an older line.
     pub fn keep(self, x: u8, n: usize, text: &mut [u8; LONGEST_KEPT], out: &mut Text) -> State
         requires { Room 13 out.old }
         ensures { KeptAs self n x text.old out.old out.new result
