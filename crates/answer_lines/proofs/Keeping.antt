@@ -1,28 +1,37 @@
--- The log after a line, by the entry that the line adds.
-use Prim.Native.Nat.{ℕ, ◌<◌, ◌≤◌}
-use mathlib.Core.Bool.{Bool}
-use mathlib.Core.List.{List, [], ◌++◌, append-nil}
-use mathlib.Core.Path.{◌≡◌, sym, ap, ◌∙◌}
-use lib.ListN.{length}
-use borrow.Author.Tests.{lt-ltb, le-ltb}
-use Rattle.std.specs.Prelude.{if◌then◌else◌}
-use Rattle.answer_frames.specs.Frames.{frame_of}
-use Rattle.explain_bus.specs.Line.{kept_of, kept}
-use Rattle.answer_lines.specs.Lines.{kept_on}
+-- The log after a line, from the contract of `explain_bus::kept::keep`: where its end is past the log's room it is cut there,
+-- and the words up to it are the same.
+use Prim.Native.Nat.{ℕ, min, ◌≤◌}
+use native.Mathlib.Omega.{arith}
+use mathlib.Core.Bool.{Bool, true, false}
+use mathlib.Core.List.{List, ◌++◌}
+use mathlib.Core.Path.{◌≡◌, refl, sym, ap, ◌∙◌}
+use lib.Dec.{ltb}
+use lib.ListN.{length, take}
+use lib.Seq.{length-take-le, take_all}
+use borrow.Author.Tests.{ltb-true, ltb-false}
+use Rattle.text_hex.specs.Appended.{Appended}
+use Rattle.explain_bus.specs.Line.{kept}
+use Rattle.answer_lines.specs.Lines.{LOG_WORDS, KeptOn}
 
-abbrev kept_if : Bool → List ℕ → List ℕ → List ℕ
-kept_if full log line = log ++ (if full then [] else kept_of (length log) (frame_of line))
+cut : (n end : ℕ) (l : List ℕ) (b : Bool) → n ≡ min end (length l) → ltb end (length l) ≡ b → take n l ≡ take end l
+cut n end l true e t =
+    let s : n ≡ end = omega (arith, ltb-true end (length l) t) in
+    rw s
+cut n end l false e t =
+    let g : length l ≤ end = ltb-false end (length l) t in
+    take_all n l (omega arith) ∙ sym (take_all end l g)
 
--- a log that is full stays as it is
-pub full : (log line : List ℕ) → 16382 < length log → log ≡ kept_on log line
-unfolding kept
-full log line h = sym (ap (λ (b : Bool). kept_if b log line) (lt-ltb 16382 (length log) h) ∙ append-nil log)
-
--- else the words that the line adds stand behind those of the log
-pub with_words : (log line words : List ℕ)
-    → length log ≤ 16382
-    → words ≡ kept_of (length log) (frame_of line)
-    → log ++ words ≡ kept_on log line
-unfolding kept
-with_words log line words h e =
-    ap (λ (w : List ℕ). log ++ w) e ∙ sym (ap (λ (b : Bool). kept_if b log line) (le-ltb 16382 (length log) h))
+pub keeps : {log line after : List ℕ} {used end n : ℕ}
+    → length log ≡ LOG_WORDS
+    → used ≤ LOG_WORDS
+    → Appended log used (kept line used (length log)) 2 after end
+    → length after ≡ length log
+    → n ≡ min end (length after)
+    → KeptOn log used line after n
+keeps {log} {line} {after} {used} {end} {n} z u a s e =
+    let l : length (take used log) ≡ used = length-take-le used log (omega arith) in
+    record {
+      same = cut n end after (ltb end (length after)) e refl
+          ∙ (a.same ∙ ap (λ (t : List ℕ). take used log ++ t) (rw (l, z)));
+      room = omega arith;
+    }

@@ -1,3 +1,2 @@
 -- Lines of answers in order.
 pub mod Lines
-pub mod Inner

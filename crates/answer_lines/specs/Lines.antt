@@ -24,3 +24,8 @@ LOG_WORDS = 16384
 -- the log with what a line adds to it; a log that is full stays as it is
 abbrev pub kept_on : List ℕ → List ℕ → List ℕ
 kept_on log line = log ++ kept line (length log) LOG_WORDS
+
+-- that log as the first words of a buffer, up to its end
+pub record KeptOn (log : List ℕ) (used : ℕ) (line after : List ℕ) (end : ℕ) : Type 0 where
+  pub same : take end after ≡ kept_on (take used log) line
+  pub room : end ≤ LOG_WORDS
