@@ -12,7 +12,7 @@ pub fn is_digit(c: u8) -> bool
     matches!(c, b'0'..=b'9' | b'A'..=b'F')
 }
 
-// The value of a digit, if the byte is one.
+// The value of a digit, if the byte is one. It stays a match: `char::to_digit` takes small letters too.
 #[tactic(auto, unfolding(crate::specs::Text::digit_of))]
 pub fn digit(c: u8) -> Option<u8>
     ensures { result ≡ digit_in c }
@@ -58,6 +58,7 @@ pub fn is_pairs(ds: &[u8]) -> bool
 }
 
 // The value of a byte that is a digit, with no test: a letter is above 64, and its lowest bits count from 1.
+// It stays beside `digit`, whose Option would have to be taken apart for bytes that are known to be digits.
 fn digit_value(c: u8) -> u8
     requires { digit_of c < 16 }
     ensures { result ≡ digit_of c }
@@ -65,7 +66,8 @@ fn digit_value(c: u8) -> u8
     c % 16 + c / 64 * 9
 }
 
-// The byte that the pair of digits i writes.
+// The byte that the pair of digits i writes. It stays a function: `u8::from_str_radix` takes a text with a sign
+// too, and answers a Result where there is nothing to refuse.
 fn pair(ds: &[u8], i: usize) -> u8
     requires digits { whole_pairs ds.now ≡ true }
     requires within { i < length ds.now / 2 }
@@ -102,7 +104,7 @@ pub fn put_bytes(ds: &[u8], bytes: &mut [u8], at: usize)
     }
 }
 
-// The character of a digit.
+// The character of a digit. It stays a function: `char::from_digit` writes small letters, and answers an Option.
 #[tactic(auto, unfolding(crate::specs::Text::char_of))]
 pub fn char(d: u32) -> u8
     requires { d < 16 }

@@ -14,7 +14,8 @@ pub struct Pair {
 
 // Writing a byte's digits stays a trait of our own: Display could not take them from a table.
 pub trait BytePairs {
-    // The digits of the lowest 8 bits.
+    // The digits of the lowest 8 bits. They stay two bytes: UpperHex writes into a Formatter, whose bytes no
+    // contract says.
     fn pair(&self, n: u32) -> Pair
         ensures high { result.high ≡ char_of (n / 16 % 16) }
         ensures low { result.low ≡ char_of (n % 16) };

@@ -32,7 +32,7 @@ impl<'a> Text<'a> {
         self.at += 1;
     }
 
-    // A whole text.
+    // A whole text. Its room stays a requirement, here and below: each method needs another number.
     pub fn push_text(&mut self, bytes: &[u8])
         requires { Room (length bytes.now) self.old }
         ensures { Added self.old bytes.now (length bytes.now) self.new }
