@@ -6,10 +6,11 @@ use native.Mathlib.Numerals.{add-one}
 use native.Mathlib.Nat.{zero-add, suc-add}
 use mathlib.Core.List.{List}
 use mathlib.Core.Bool.{Bool, true, false}
-use mathlib.Core.Path.{◌≡◌, refl, sym}
+use mathlib.Core.Path.{◌≡◌, ◌∙◌, refl, sym}
 use lib.Dec.{ltb}
 use lib.Pow.{pow-add, pow_mono}
-use lib.ListN.{get_or}
+use lib.ListN.{get_or, take, drop}
+use lib.Seq.{get_or-take, get_or-drop}
 use borrow.Author.Tests.{lt-ltb, le-ltb, ltb-true, ltb-false}
 use Rattle.text_hex.specs.Text.{digit_of, digit_in, number_at}
 
@@ -62,3 +63,7 @@ pub below : (i : ℕ) {v : ℕ} → v < 2 ^ (4 * i) → i < 8 → v < 268435456
 below i {v} h l =
     let p : 4 * i ≤ 28 = omega arith in
     omega (arith, pow_mono p)
+
+-- the byte of a slice of a line, as one of the line
+pub byte_in : (line : List ℕ) (at n i : ℕ) → i < n → get_or (take ((at + n) - at) (drop at line)) i 0 ≡ get_or line (at + i) 0
+byte_in line at n i h = get_or-take ((at + n) - at) (drop at line) i 0 (omega arith) ∙ get_or-drop at line i 0

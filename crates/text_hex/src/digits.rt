@@ -32,8 +32,8 @@ pub fn number(line: &[u8], at: usize, n: usize) -> Option<u32>
     ensures { NumberAs line.now at n result }
 {
     let mut v: u32 = 0;
-    for i in 0..n {
-        let d = digit(line[at + i])?;
+    for c in &line[at..at + n] {
+        let d = digit(*c)?;
         v = v * 16 + u32::from(d);
     }
     Some(v)

@@ -5,5 +5,5 @@ use Rattle.std.specs.Prelude.{Some, ◌≡◌, ◌<◌, ◌^◌, ◌*◌}
 use Rattle.text_hex.specs.Text.{number_at}
 use Rattle.text_hex.proofs.digits.number.Given as goal
 
-abbrev pub invariant-loop-i : goal.invariant-loop-i
-invariant-loop-i l = record { same : number_at l.line l.at l.i ≡ Some l.v; below : l.v < 2 ^ (4 * l.i) }
+abbrev pub invariant-loop-c : goal.invariant-loop-c
+invariant-loop-c l = record { same : number_at l.line l.at l.c-index ≡ Some l.v; below : l.v < 2 ^ (4 * l.c-index) }
