@@ -39,7 +39,8 @@ fn warn(text: &mut Text, number: u64)
     text.push_text(b": not an answer frame\n");
 }
 
-// The text of a line that is no answer frame, at the start of a lent buffer. Says where it ends.
+// The text of a line that is no answer frame, at the start of a lent buffer. Says where it ends. Its room stays
+// a requirement, as above: an array would ask callers for a buffer of exactly that size.
 pub fn push_warning(out: &mut [u8], number: u64) -> usize
     requires { 47 ≤ length out.old }
     ensures { Appended out.old 0 (warning number) 47 out.new result }

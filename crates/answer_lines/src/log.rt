@@ -8,8 +8,8 @@ use std::marker::Model;
 // The words of 8,192 entries.
 pub const LOG_WORDS: usize = 16384;
 
-// The words, and how many of them are used. That count stays beside an array, as in any vector of a fixed room:
-// the library's is not among what this project uses, and the model hides it from every contract.
+// The words, and how many of them are used. That count stays beside an array: a Vec would need the heap. No
+// contract sees it, since the model is the words that are used.
 #[derive(Drop)]
 pub struct Log {
     words: [u32; LOG_WORDS],

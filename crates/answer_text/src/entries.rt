@@ -10,7 +10,8 @@ use regs::answers::Reply;
 use text_hex::hex::Table;
 use text_hex::text::Text;
 
-// Reads and writes take one way, so that which of the two comes next need not be guessed.
+// Reads and writes take one way, so that which of the two comes next need not be guessed. It stays no Display: a
+// Formatter's bytes are in no contract.
 #[tactic(auto, unfolding(text_hex::specs::Print::entry_text))]
 fn push_entry(text: &mut Text, pairs: &Table, e: Entry)
     requires { Room 13 text.old }
@@ -76,6 +77,7 @@ pub fn push_log(text: &mut Text, log: &[u32], n: usize)
     text.at = lines.at;
 }
 
+// The line of a reply. It stays no Display, for the same reason.
 pub fn push_reply(text: &mut Text, r: Reply)
     requires { Room 13 text.old }
     ensures { Added text.old (reply_text r) 13 text.new }

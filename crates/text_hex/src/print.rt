@@ -6,7 +6,7 @@ ghost use Rattle.text_hex.specs.Appended.{Appended};
 use super::text::Text;
 
 // An answer's number and its detail, at `at` of a lent buffer. Says where the text ends. Buffer and place stay
-// two parameters, and the number a number: the replay holds no text here, and prints numbers that are no Reply's.
+// two parameters, and the number a number: the replay holds no text here, and prints 21, which is no Reply's.
 pub fn push_answer(out: &mut [u8], at: usize, number: u32, detail: u32) -> usize
     requires { at + 13 ≤ length out.old }
     ensures { Appended out.old at (answer_text number detail) 13 out.new result }

@@ -121,7 +121,7 @@ impl<'a> Text<'a> {
         }
     }
 
-    // An answer's number and its detail. The number stays a u32: 20 and 21 are the replay's own and no Reply's.
+    // An answer's number and its detail. The number stays a u32: 21 is the replay's own and no Reply's.
     #[tactic(auto, unfolding(crate::specs::Print::answer_text))]
     pub fn push_answer(&mut self, number: u32, detail: u32)
         requires { Room 13 self.old }

@@ -1,5 +1,5 @@
 -- Reads of standard input one after the other: what came, and how the input stands then.
-use Rattle.std.specs.Prelude.{ℕ, zero, suc, ◌≤◌, ◌<◌, min, Bool, true, false, List, [], ◌++◌, ◌≡◌, ℤ, pos, negsuc, length}
+use Rattle.std.specs.Prelude.{ℕ, zero, suc, ◌≤◌, ◌<◌, min, Bool, true, false, List, [], ◌++◌, ◌≡◌, Option, Some, None, length}
 use Rattle.text_stdin.specs.declared.reads.End.{End}
 use Rattle.text_stdin.specs.declared.reads.End.TheVariants.{Open, Ended, Failed, OutOfTurns}
 use Rattle.text_stdin.specs.declared.reads.Got.{Got}
@@ -19,12 +19,12 @@ is_ended_at OutOfTurns = false
 abbrev pub nothing : End → Got
 nothing e = record { count = 0; end = e }
 
--- what an answer says that was given to a chunk of so many bytes: 0 is the end of the input, -1 a failure
-abbrev pub got_by : ℤ → ℕ → Got
-got_by (negsuc k) room = nothing Failed
-got_by (pos k) zero = nothing Failed
-got_by (pos zero) (suc room) = nothing Ended
-got_by (pos (suc k)) (suc room) = record { count = min (suc k) (suc room); end = Open }
+-- what an answer says that was given to a chunk of so many bytes: 0 is the end of the input, none a failure
+abbrev pub got_by : Option ℕ → ℕ → Got
+got_by None room = nothing Failed
+got_by (Some n) zero = nothing Failed
+got_by (Some zero) (suc room) = nothing Ended
+got_by (Some (suc k)) (suc room) = record { count = min (suc k) (suc room); end = Open }
 
 -- the input is open where bytes came
 abbrev pub Counted : End → ℕ → Type 0

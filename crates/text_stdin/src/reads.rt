@@ -1,7 +1,6 @@
 // Reads of standard input: what each brought, and how it leaves the input.
 ghost use Rattle.std.specs.Prelude.{◌≡◌, length};
 ghost use Rattle.text_stdin.specs.Reads.{got_by, Brought};
-ghost use Rattle.text_stdin.specs.Inner.Counted.{bytes_by};
 
 use std::io::Read;
 
@@ -23,45 +22,26 @@ pub struct Got {
     pub end: End,
 }
 
-// How many bytes of the chunk an answer gives: none where
-// it is negative, and never more than the chunk has.
-fn count(answer: isize, chunk: &[u8]) -> usize
-    ensures { result ≡ bytes_by answer (length chunk.now) }
-{
-    if answer > 0 {
-        (answer as usize).min(chunk.len())
-    } else {
-        0
-    }
-}
-
-// What a read's answer says. Into a chunk with no room
-// nothing can be read, so a 0 there is no end of the input.
-pub fn by_answer(answer: isize, chunk: &[u8]) -> Got
+// What a read's answer says, which is None where the read has failed. Never more bytes came than the chunk has.
+// Into a chunk with no room nothing can be read, so a 0 there is no end of the input.
+pub fn by_answer(answer: Option<usize>, chunk: &[u8]) -> Got
     ensures { result ≡ got_by answer (length chunk.now) }
 {
-    let count = count(answer, chunk);
-    if count > 0 {
-        return Got {
-            count,
-            end: End::Open,
-        };
-    }
-    if answer < 0 {
-        return Got {
-            count: 0,
-            end: End::Failed,
-        };
-    }
-    if chunk.len() == 0 {
-        return Got {
-            count: 0,
-            end: End::Failed,
-        };
-    }
-    Got {
+    let failed = Got {
         count: 0,
-        end: End::Ended,
+        end: End::Failed,
+    };
+    match answer {
+        None => failed,
+        Some(_) if chunk.is_empty() => failed,
+        Some(0) => Got {
+            count: 0,
+            end: End::Ended,
+        },
+        Some(n) => Got {
+            count: n.min(chunk.len()),
+            end: End::Open,
+        },
     }
 }
 
@@ -69,11 +49,6 @@ pub fn by_answer(answer: isize, chunk: &[u8]) -> Got
 pub fn read_some(rt: HostRuntime, chunk: &mut [u8]) -> Got
     ensures { Brought chunk.new result }
 {
-    match rt.stdin().read(chunk) {
-        Ok(n) => by_answer(n as isize, chunk),
-        Err(_) => Got {
-            count: 0,
-            end: End::Failed,
-        },
-    }
+    let answer = rt.stdin().read(chunk).ok();
+    by_answer(answer, chunk)
 }

@@ -23,7 +23,8 @@ pub fn unwritten(rt: HostRuntime, name: &[u8]) {
     say(rt, name, b": standard output could not be written\n");
 }
 
-// Where a program stops: whether all was written, and how its input stands.
+// Where a program stops: whether all was written, and how its input stands. `written` stays a bool beside the
+// end: who calls this knows both, and a write that has failed is told of alone.
 pub fn stopped(rt: HostRuntime, name: &[u8], written: bool, end: End) {
     if written {
         unread(rt, name, end);

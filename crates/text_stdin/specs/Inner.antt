@@ -1,2 +1,0 @@
--- Definitions that only the contracts of inner functions cite: no public statement rests on believing them.
-pub mod Counted
