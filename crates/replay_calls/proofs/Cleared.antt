@@ -6,12 +6,12 @@ use mathlib.Core.Path.{◌≡◌, ap, ◌∙◌}
 use lib.ListN.{length, take, replicate, length-replicate}
 use lib.Seq.{length-take-le}
 
-module _ (n : ℕ) (buffer room : List ℕ) (few : n ≤ 4096) (size : length buffer ≡ 4096) (z : room ≡ replicate (length (take n buffer)) 0) where
+module _ (n : ℕ) (buffer room : List ℕ) (fits : n ≤ length buffer) (z : room ≡ replicate (length (take n buffer)) 0) where
   places : length (take n buffer) ≡ n
-  places = length-take-le n buffer (omega (arith, few, size))
+  places = length-take-le n buffer fits
 
   pub zeros : room ≡ replicate n 0
   zeros = z ∙ ap (λ (k : ℕ). replicate k 0) places
 
-  pub few_zeros : length room ≤ 4096
-  few_zeros = omega (arith, ap length zeros, length-replicate {A = ℕ} n 0, few)
+  pub few_zeros : n ≤ 4096 → length room ≤ 4096
+  few_zeros few = omega (arith, ap length zeros, length-replicate {A = ℕ} n 0, few)

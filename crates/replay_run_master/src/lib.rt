@@ -5,8 +5,10 @@ ghost use Rattle.std.specs.Prelude.{◌≡◌, [], ◌&&◌, ◌≤◌, length};
 ghost use Rattle.regs.specs.Log.{Leaves, LeavesBuffer, expected};
 ghost use Rattle.master.specs.Operations.{fits, lists};
 ghost use Rattle.master.specs.Operations as Master;
+ghost use Rattle.text_hex.specs.Added.{Room};
 ghost use Rattle.replay_calls.specs.Calls.{within_form, lists_read};
-ghost use Rattle.replay_calls.specs.Inner.Runs.{listed_of, Roomy, SameSpace, Transferred};
+ghost use Rattle.replay_calls.specs.Inner.Runs.{LOG_WORDS, MOST_TEXT};
+ghost use Rattle.replay_calls.specs.Inner.Runs.{listed_of, SameSpace, Transferred};
 
 use regs::access::Ran;
 use replay_calls::form::{Form, Kind, Mode};
@@ -115,7 +117,8 @@ fn transact(
     }
 }
 
-// A transfer that reads into the first bytes of the buffer.
+// A transfer that reads into the first bytes of the buffer. What is asked of `work` stays
+// clauses: `Roomy` would ask for a buffer of 4,096 bytes, however few are read.
 pub fn transfer(
     form: Form,
     address: u16,
@@ -124,7 +127,9 @@ pub fn transfer(
     work: &mut Workspace,
 )
     requires few { operations.room ≤ 4096 }
-    requires room { Roomy work.old }
+    requires fits { operations.room ≤ length work.old.buffer.now }
+    requires log { length work.old.log.now ≡ LOG_WORDS }
+    requires text { Room MOST_TEXT work.old.text }
     ensures same { SameSpace work.old work.new }
     ensures ran { Transferred form address (listed_of operations.entry)
         readings.now work.old.text work.new.text }

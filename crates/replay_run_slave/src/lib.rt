@@ -1,11 +1,12 @@
 // The slave's calls, run and printed.
 #![tactic(auto)]
 
-ghost use Rattle.std.specs.Prelude.{◌≡◌, ◌≤◌, replicate};
+ghost use Rattle.std.specs.Prelude.{◌≡◌, ◌≤◌, length, replicate};
 ghost use Rattle.slave.specs.Calls.{program};
 ghost use Rattle.slave_run.specs.Requests.{call_of, is_listen};
+ghost use Rattle.text_hex.specs.Added.{Room};
 ghost use Rattle.replay_calls.specs.Calls.{replayed};
-ghost use Rattle.replay_calls.specs.Inner.Runs.{Runs, Roomy, SameSpace};
+ghost use Rattle.replay_calls.specs.Inner.Runs.{LOG_WORDS, MOST_TEXT, Runs, SameSpace};
 
 use i2c_slave::Request;
 use replay_calls::Workspace;
@@ -21,7 +22,8 @@ fn is_listen(request: Request) -> bool
 
 // Any call, with the bytes of a response, and with so many places to listen into. `s`, `readings` and
 // `work` stay three: the state goes in and comes out by value, and one of the other two is read and one
-// written to.
+// written to. What is asked of `work` stays clauses: `Roomy` would ask for a buffer of 4,096 bytes, and
+// most calls use none.
 pub fn call(
     request: Request,
     bytes: &[u8],
@@ -31,7 +33,9 @@ pub fn call(
     work: &mut Workspace,
 ) -> SlaveState
     requires few { places ≤ 4096 }
-    requires room { Roomy work.old }
+    requires fits { places ≤ length work.old.buffer.now }
+    requires log { length work.old.log.now ≡ LOG_WORDS }
+    requires text { Room MOST_TEXT work.old.text }
     ensures same { SameSpace work.old work.new }
     ensures ran { Runs (is_listen request)
         (replayed (program (call_of request bytes.now (replicate places 0))) readings.now
