@@ -1,7 +1,7 @@
 -- A transfer comes as far as the burst that begins at its point, and then as far as the polls there.
 use Prim.Native.Nat.{ℕ, ◌<◌, ◌^◌}
 use mathlib.Core.List.{List}
-use mathlib.Core.Path.{◌≡◌, sym, ap}
+use mathlib.Core.Path.{◌≡◌, refl, sym, ap}
 use lib.ListN.{length}
 use Rattle.std.specs.Prelude.{Option, Some, Ok}
 use Rattle.regs.specs.declared.access.Recording.{Recording}
@@ -28,12 +28,14 @@ module _ {t : Transfer} {bytes : List ℕ} {before : Recording} {b : List ℕ} w
   }
 
   -- byte after byte, or rounds of an async read
-  pub burst_ahead : {after : Recording} {b' : List ℕ} {p p' : Point} → t.point ≡ p → Bursts t bytes before b p after b' p'
+  pub burst_ahead : {alike : Transfer → Type 0} {after : Recording} {b' : List ℕ} {p p' : Point} → t.point ≡ p
+      → alike t
+      → Bursts alike bytes before b p after b' p'
       → GoesAhead t bytes before b after b' (Some p')
-  burst_ahead at x = record {
+  burst_ahead at same x = record {
     keeps = x.keeps;
     room = x.room;
-    reaches = λ coded kinds lengths. rw (at_its_point t at) at (x.reaches coded kinds lengths);
+    reaches = λ coded kinds lengths. rw (at_its_point t at) at (x.reaches coded kinds lengths t same);
   }
 
   -- rounds of an async write, which may end the operation
@@ -42,7 +44,8 @@ module _ {t : Transfer} {bytes : List ℕ} {before : Recording} {b : List ℕ} w
   fills_ahead at x = record {
     keeps = x.keeps;
     room = x.room;
-    reaches = λ coded kinds lengths. rw (at_its_point t at) at (x.reaches coded kinds lengths b);
+    reaches = λ coded kinds lengths. rw (at_its_point t at) at
+        (x.reaches coded kinds lengths b t (record { len = refl; at = refl; send_stop = refl }));
   }
 
   -- and then polls

@@ -15,23 +15,26 @@ use Rattle.regs_runs.specs.Inner.Reaches.{Reaches}
 use Rattle.regs_runs.proofs.Reach.{stays, then, keeps_all, keeps_on}
 use Rattle.transfer_fast_blocking.specs.Inner.Bursts.{Bursts}
 
-module _ {t : Transfer} {bytes : List ℕ} where
+module _ {alike : Transfer → Type 0} {bytes : List ℕ} where
   pub no_burst : {p : Point} {r : Recording} {b : List ℕ} → length r.log.now < 2 ^ 64
-      → Bursts t bytes r b p r b p
+      → Bursts alike bytes r b p r b p
   no_burst {r = r} fits = record {
     keeps = keeps_all;
     room = λ h. h;
     size = refl;
-    reaches = λ coded kinds lengths. stays (machine coded kinds lengths bytes) r.readings.now fits;
+    reaches = λ coded kinds lengths t same. stays (machine coded kinds lengths bytes) r.readings.now fits;
   }
 
   pub burst_after : {p p₁ p₂ : Point} {r r₁ r₂ : Recording} {b b₁ b₂ : List ℕ}
-      → Bursts t bytes r b p r₁ b₁ p₁ → Bursts t bytes r₁ b₁ p₁ r₂ b₂ p₂ → Bursts t bytes r b p r₂ b₂ p₂
+      → Bursts alike bytes r b p r₁ b₁ p₁
+      → Bursts alike bytes r₁ b₁ p₁ r₂ b₂ p₂
+      → Bursts alike bytes r b p r₂ b₂ p₂
   burst_after x y = record {
     keeps = keeps_on x.keeps y.keeps;
     room = λ h. y.room (x.room h);
     size = y.size ∙ x.size;
-    reaches = λ coded kinds lengths. then (x.reaches coded kinds lengths) (rw x.keeps.readings at (y.reaches coded kinds lengths));
+    reaches = λ coded kinds lengths t same. then (x.reaches coded kinds lengths t same)
+        (rw x.keeps.readings at (y.reaches coded kinds lengths t same));
   }
 
   -- what was recorded and done in a burst
@@ -42,24 +45,24 @@ module _ {t : Transfer} {bytes : List ℕ} where
       → after.log.now ≡ l
       → e ≤ length before.log.now / 2
       → length b' ≡ length b
-      → ((coded : Bool) (kinds lengths : List ℕ)
+      → ((coded : Bool) (kinds lengths : List ℕ) (t : Transfer) → alike t
       → Reaches (machine coded kinds lengths bytes) before.readings.now (with_point t p) before.entries before.used
       before.log.now b (with_point t p') e u l b')
-      → Bursts t bytes before b p after b' p'
+      → Bursts alike bytes before b p after b' p'
   burst_of keeps entries used log room size run = record {
     keeps = keeps;
     room = λ h. rw (entries, keeps.size) room;
     size = size;
-    reaches = λ coded kinds lengths. rw (entries, used, log) (run coded kinds lengths);
+    reaches = λ coded kinds lengths t same. rw (entries, used, log) (run coded kinds lengths t same);
   }
 
   pub burst_put : (m : ℕ) {p p' : Point} {before mid : Recording} {b b' : List ℕ} {n : ℕ} {l : List ℕ} → Puts before n l mid
       → before.entries + n ≤ length before.log.now / 2
       → length b' ≡ length b
-      → ((coded : Bool) (kinds lengths : List ℕ)
+      → ((coded : Bool) (kinds lengths : List ℕ) (t : Transfer) → alike t
       → Reaches (machine coded kinds lengths bytes) before.readings.now (with_point t p) before.entries before.used
       before.log.now b (with_point t p') (before.entries + n) (before.used + m) l b')
-      → Bursts t bytes before b p (record mid { used = mid.used + m }) b' p'
+      → Bursts alike bytes before b p (record mid { used = mid.used + m }) b' p'
   burst_put m put room size run = burst_of
       (record { readings = put.keeps.readings; loan = put.keeps.loan; size = put.keeps.size })
       put.entries (rw put.used) put.log room size run

@@ -2,7 +2,7 @@
 ghost use Rattle.std.specs.Prelude.{List, true, false, ◌≡◌, ℕ, ◌+◌, ◌<◌};
 ghost use Rattle.transfer.specs.declared.Point.TheVariants.{ReadBlocking};
 ghost use Rattle.transfer.specs.declared.ReadPoint.TheVariants.{Room};
-ghost use Rattle.transfer_fast_blocking.specs.Inner.Bursts.{Bursts, ForAny, straight_read};
+ghost use Rattle.transfer_fast_blocking.specs.Inner.Bursts.{Bursts, ForAny, SameRead, straight_read};
 
 use regs::access::{Recording, keep};
 use regs::fields::{byte_of, level_of, word_of};
@@ -21,11 +21,11 @@ fn byte(t: Transfer, i: u16, recording: &mut Recording, buffer: &mut [u8]) -> bo
     requires { i + 1 < t.operation.len }
     ensures taken { result ≡ true
         → ForAny
-        (λ (bytes : List ℕ). Bursts t bytes recording.old buffer.old (ReadBlocking (Room i))
+        (λ (bytes : List ℕ). Bursts (SameRead t) bytes recording.old buffer.old (ReadBlocking (Room i))
         recording.new buffer.new (ReadBlocking (Room (i + 1)))) }
     ensures left { result ≡ false
         → ForAny
-        (λ (bytes : List ℕ). Bursts t bytes recording.old buffer.old (ReadBlocking (Room i))
+        (λ (bytes : List ℕ). Bursts (SameRead t) bytes recording.old buffer.old (ReadBlocking (Room i))
         recording.new buffer.new (ReadBlocking (Room i))) }
 {
     if has(recording, 3, 4) {
@@ -52,7 +52,7 @@ fn byte(t: Transfer, i: u16, recording: &mut Recording, buffer: &mut [u8]) -> bo
 // `t`, `from`, `i` and `recording` stay apart: a transfer and an index by value, and what is lent.
 pub fn burst(t: Transfer, from: u16, recording: &mut Recording, buffer: &mut [u8]) -> u16
     ensures { ForAny
-        (λ (bytes : List ℕ). Bursts t bytes recording.old buffer.old (ReadBlocking (Room from))
+        (λ (bytes : List ℕ). Bursts (SameRead t) bytes recording.old buffer.old (ReadBlocking (Room from))
         recording.new buffer.new (ReadBlocking (Room result))) }
 {
     let last = t.operation.len.saturating_sub(1);

@@ -3,7 +3,7 @@
 ghost use Rattle.std.specs.Prelude.{List, true, false, ◌≡◌, ℕ, ◌+◌, ◌<◌};
 ghost use Rattle.transfer.specs.declared.Point.TheVariants.{WriteBlocking};
 ghost use Rattle.transfer.specs.declared.WritePoint.TheVariants.{Send};
-ghost use Rattle.transfer_fast_blocking.specs.Inner.Bursts.{Bursts, ForAny, straight_write};
+ghost use Rattle.transfer_fast_blocking.specs.Inner.Bursts.{Bursts, ForAny, SameWrite, straight_write};
 
 use regs::access::Recording;
 use regs::fields::{has_tx_empty, word_of};
@@ -22,11 +22,11 @@ fn byte(t: Transfer, i: u16, bytes: &[u8], recording: &mut Recording) -> bool
     requires { i + 1 < t.operation.len }
     ensures sent { result ≡ true
         → ForAny
-        (λ (buffer : List ℕ). Bursts t bytes.now recording.old buffer (WriteBlocking (Send i))
+        (λ (buffer : List ℕ). Bursts (SameWrite t) bytes.now recording.old buffer (WriteBlocking (Send i))
         recording.new buffer (WriteBlocking (Send (i + 1)))) }
     ensures left { result ≡ false
         → ForAny
-        (λ (buffer : List ℕ). Bursts t bytes.now recording.old buffer (WriteBlocking (Send i))
+        (λ (buffer : List ℕ). Bursts (SameWrite t) bytes.now recording.old buffer (WriteBlocking (Send i))
         recording.new buffer (WriteBlocking (Send i))) }
 {
     if has(recording, 2, 3) {
@@ -49,7 +49,7 @@ fn byte(t: Transfer, i: u16, bytes: &[u8], recording: &mut Recording) -> bool
 // `bytes` and `recording` stay apart too: the slice and the recording are lent for different times.
 pub fn burst(t: Transfer, from: u16, bytes: &[u8], recording: &mut Recording) -> u16
     ensures { ForAny
-        (λ (buffer : List ℕ). Bursts t bytes.now recording.old buffer (WriteBlocking (Send from))
+        (λ (buffer : List ℕ). Bursts (SameWrite t) bytes.now recording.old buffer (WriteBlocking (Send from))
         recording.new buffer (WriteBlocking (Send result))) }
 {
     let last = t.operation.len.saturating_sub(1);

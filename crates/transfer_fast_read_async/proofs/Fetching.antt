@@ -25,7 +25,7 @@ use Rattle.regs_runs.specs.Inner.Puts.{Reads}
 use Rattle.regs_runs.proofs.Reach.{stays, keeps_all, keeps_on, did_read}
 use Rattle.transfer_fast_blocking.specs.Inner.Bursts.{Bursts}
 use Rattle.transfer_fast_blocking.proofs.Bursting.{no_burst, burst_after, burst_of}
-use Rattle.transfer_fast_read_async.specs.Inner.Rounds.{round, Fetched}
+use Rattle.transfer_fast_read_async.specs.Inner.Rounds.{round, Fetched, SameRounds}
 use Rattle.transfer_fast_read_async.proofs.Chosen.{chosen}
 
 -- with so many bytes to go
@@ -59,7 +59,7 @@ module _ (coded : Bool) (kinds lengths bytes : List ℕ) {readings : List ℕ} (
 -- the loop's head: so many bytes of the round are fetched
 pub record Fetching (t : Transfer) (remaining count : ℕ) (before : Recording) (b : List ℕ) (n : ℕ) (after : Recording) (b' : List ℕ) : Type 0 where
   pub came : (bytes : List ℕ) (queue batch : ℕ)
-      → Bursts t bytes before b (ReadAsync (Fetch (round remaining queue batch) count)) after b'
+      → Bursts (SameRounds t) bytes before b (ReadAsync (Fetch (round remaining queue batch) count)) after b'
       (fetched (round remaining queue batch) (count - n))
   pub entries : after.entries ≡ before.entries + n
   pub used : after.used ≡ before.used + n
@@ -102,9 +102,10 @@ module _ {t : Transfer} {remaining count : ℕ} {before : Recording} {b : List �
       record {
         came = λ bytes queue batch. burst_after (g.came bytes queue batch)
             (rw (← fewer) (burst_of x.keeps x.entries x.used x.log (omega (arith, space)) wide
-            (λ coded kinds lengths. rw (eb, x.value) (byte_fetched coded kinds lengths bytes t remaining queue batch (count - n) place
+            (λ coded kinds lengths t' alike. rw (eb, x.value)
+            (byte_fetched coded kinds lengths bytes t' remaining queue batch (count - n) place
             (stays (machine coded kinds lengths bytes) mid.readings.now short)
-            (omega (arith, more)) some space has to))));
+            (omega (arith, more)) some space has (rw (alike.at, alike.len) to)))));
         entries = omega (arith, x.entries, g.entries);
         used = omega (arith, x.used, g.used);
         keeps = keeps_on g.keeps x.keeps;

@@ -23,7 +23,7 @@ use Rattle.regs_runs.specs.Inner.Reaches.{Reaches}
 use Rattle.regs_runs.proofs.Reach.{stays, keeps_all, keeps_on, did_write}
 use Rattle.transfer_fast_blocking.specs.Inner.Bursts.{Bursts}
 use Rattle.transfer_fast_blocking.proofs.Bursting.{no_burst, burst_after, burst_of}
-use Rattle.transfer_fast_read_async.specs.Inner.Rounds.{round, Queued}
+use Rattle.transfer_fast_read_async.specs.Inner.Rounds.{round, Queued, SameRounds}
 use Rattle.transfer_fast_read_async.proofs.Chosen.{chosen}
 
 -- with so many words to go
@@ -55,7 +55,7 @@ module _ (coded : Bool) (kinds lengths bytes : List ℕ) {readings : List ℕ} (
 -- the loop's head: so many words of the round are queued
 pub record Queueing (t : Transfer) (queue words : ℕ) (before : Recording) (n : ℕ) (after : Recording) : Type 0 where
   pub came : (bytes b : List ℕ) (remaining batch : ℕ)
-      → Bursts t bytes before b (ReadAsync (Queue (round remaining queue batch) words)) after b
+      → Bursts (SameRounds t) bytes before b (ReadAsync (Queue (round remaining queue batch) words)) after b
       (queueing (round remaining (queue - n) batch) (words - n))
   pub entries : after.entries ≡ before.entries + n
   pub used : after.used ≡ before.used
@@ -91,7 +91,8 @@ module _ {t : Transfer} {queue words : ℕ} {before : Recording} where
       record {
         came = λ bytes b remaining batch. burst_after (g.came bytes b remaining batch)
             (rw (← fewer, ← next) (burst_of x.keeps x.entries x.used x.log (omega (arith, space)) refl
-            (λ coded kinds lengths. rw ew (word_queued coded kinds lengths bytes t remaining (queue - n) batch (words - n)
+            (λ coded kinds lengths t' alike. rw (ew, ← alike.len, ← alike.restart, ← alike.send_stop)
+            (word_queued coded kinds lengths bytes t' remaining (queue - n) batch (words - n)
             (stays (machine coded kinds lengths bytes) mid.readings.now small)
             (omega (arith, more)) space))));
         entries = omega (arith, x.entries, g.entries);

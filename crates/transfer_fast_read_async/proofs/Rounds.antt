@@ -24,7 +24,8 @@ use Rattle.regs_runs.specs.Inner.Puts.{Reads}
 use Rattle.regs_runs.proofs.Reach.{stays, keeps_on, did_read}
 use Rattle.transfer_fast_blocking.specs.Inner.Bursts.{Bursts}
 use Rattle.transfer_fast_blocking.proofs.Bursting.{burst_after, burst_of}
-use Rattle.transfer_fast_read_async.specs.Inner.Rounds.{round, Queued, Fetched, StraightRound, after_round}
+use Rattle.transfer_fast_read_async.specs.Inner.Rounds.{round, Queued, Fetched, SameRounds}
+use Rattle.transfer_fast_read_async.specs.Inner.Rounds.{StraightRound, after_round}
 
 module _ (coded : Bool) (kinds lengths bytes : List ℕ) {readings : List ℕ} (t : Transfer) {s₀ : Transfer} {e₀ u₀ : ℕ}
     {l₀ b₀ : List ℕ} (remaining queue batch words count : ℕ) {e u : ℕ} {l b : List ℕ} where
@@ -81,12 +82,15 @@ pub round_done : {t : Transfer} {x : Round} {words count : ℕ} {r r₁ r₂ r�
     → Reads r₂ RXFLR v₃ r₃
     → Reads r₃ TX_ABRT_SOURCE v₄ r₄
     → Fetched t (x.remaining - count) count r₄ b r₅ b'
-    → (bytes : List ℕ) → Bursts t bytes r b (ReadAsync (Capacity x)) r₅ b' (ReadAsync (Capacity (after_round x words count)))
+    → (bytes : List ℕ)
+    → Bursts (SameRounds t) bytes r b (ReadAsync (Capacity x)) r₅ b' (ReadAsync (Capacity (after_round x words count)))
 round_done {t} {x} {words} {count} {r} {r₁} {r₂} {r₃} {r₄} {r₅} {b} {b'} s fits e₁ q e₃ e₄ f bytes =
     let room : r.entries + 1 ≤ length r.log.now / 2 = omega (arith, s.fits) in
-    let g₁ : Bursts t bytes r b (ReadAsync (Capacity x)) r₁ b (ReadAsync (Queue (round x.remaining x.queue words) words)) =
+    let g₁ : Bursts (SameRounds t) bytes r b (ReadAsync (Capacity x)) r₁ b
+    (ReadAsync (Queue (round x.remaining x.queue words) words)) =
     burst_of e₁.keeps e₁.entries e₁.used e₁.log room refl
-    (λ coded kinds lengths. rw e₁.value (counted coded kinds lengths bytes t x.remaining x.queue x.batch words count
+    (λ coded kinds lengths t' alike. rw e₁.value
+    (counted coded kinds lengths bytes t' x.remaining x.queue x.batch words count
     (stays (machine coded kinds lengths bytes) r.readings.now fits) s.some s.words_are
     (omega (arith, room)) (omega (arith, s.left)))) in
     let g₂ = burst_after g₁ (q.bursts bytes b x.remaining words) in
@@ -95,11 +99,13 @@ round_done {t} {x} {words} {count} {r} {r₁} {r₂} {r₃} {r₄} {r₅} {b} {b
     let u₃ : r₂.used + 1 ≡ r.used + 2 = omega (arith, u₂) in
     let room₂ : r₂.entries + 2 ≤ length r₂.log.now / 2 =
     rw g₂.keeps.size (omega (arith, s.fits, q.entries, e₁.entries)) in
-    let g₃ : Bursts t bytes r₂ b (ReadAsync (Level (round x.remaining (x.queue - words) words))) r₄ b
+    let g₃ : Bursts (SameRounds t) bytes r₂ b
+    (ReadAsync (Level (round x.remaining (x.queue - words) words))) r₄ b
     (ReadAsync (Fetch (round (x.remaining - count) (x.queue - words) words) count)) =
     burst_of (keeps_on e₃.keeps e₄.keeps) (omega (arith, e₃.entries, e₄.entries)) (omega (arith, e₃.used, e₄.used))
     (rw (e₃.log, e₃.entries, e₃.value, e₄.value, e₃.keeps.readings, e₃.used) at e₄.log) room₂ refl
-    (λ coded kinds lengths. polled coded kinds lengths bytes t x.remaining (x.queue - words) words words count
+    (λ coded kinds lengths t' alike.
+    polled coded kinds lengths bytes t' x.remaining (x.queue - words) words words count
     (stays (machine coded kinds lengths bytes) r₂.readings.now (rw g₂.keeps.size fits)) s.some
     (omega (arith, s.more)) (rw (same, u₂) s.filled) (rw (same, u₃) s.quiet) (rw (same, u₂) s.count_is) room₂
     (rw same (omega (arith, s.left, u₂)))) in

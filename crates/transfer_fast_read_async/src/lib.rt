@@ -9,7 +9,8 @@ ghost use Rattle.regs_runs.specs.Inner.Puts.{Grows};
 ghost use Rattle.transfer.specs.declared.Point.TheVariants.{ReadAsync};
 ghost use Rattle.transfer.specs.declared.RoundPoint.TheVariants.{Capacity};
 ghost use Rattle.transfer_fast_blocking.specs.Inner.Bursts.{Bursts, ForAny};
-ghost use Rattle.transfer_fast_read_async.specs.Inner.Rounds.{Queued, Fetched, StraightRound, after_round};
+ghost use Rattle.transfer_fast_read_async.specs.Inner.Rounds.{Queued, Fetched, SameRounds};
+ghost use Rattle.transfer_fast_read_async.specs.Inner.Rounds.{StraightRound, after_round};
 
 use regs::access::{Recording, keep};
 use regs::fields::{byte_of, level_of};
@@ -103,8 +104,8 @@ fn one_round(
         × (round.remaining ≤ t.operation.len) }
     ensures is { result ≡ after_round round plan.words plan.count }
     ensures bursts { ForAny
-        (λ (bytes : List ℕ). Bursts t bytes recording.old buffer.old (ReadAsync (Capacity round))
-        recording.new buffer.new (ReadAsync (Capacity result))) }
+        (λ (bytes : List ℕ). Bursts (SameRounds t) bytes recording.old buffer.old
+        (ReadAsync (Capacity round)) recording.new buffer.new (ReadAsync (Capacity result))) }
     ensures more { Grows recording.old recording.new }
 {
     let remaining = round.remaining - plan.count;
@@ -125,8 +126,8 @@ fn one_round(
 // `t`, `recording` and `buffer` stay apart: a transfer by value, and two things that are lent.
 pub fn burst(t: Transfer, from: Round, recording: &mut Recording, buffer: &mut [u8]) -> Round
     ensures { ForAny
-        (λ (bytes : List ℕ). Bursts t bytes recording.old buffer.old (ReadAsync (Capacity from))
-        recording.new buffer.new (ReadAsync (Capacity result))) }
+        (λ (bytes : List ℕ). Bursts (SameRounds t) bytes recording.old buffer.old
+        (ReadAsync (Capacity from)) recording.new buffer.new (ReadAsync (Capacity result))) }
 {
     if t.operation.len < from.remaining {
         return from;

@@ -24,7 +24,7 @@ use Rattle.transfer.specs.declared.AbortPoint.TheVariants.{Source}
 use Rattle.transfer.specs.declared.Caller.TheVariants.{Space}
 use Rattle.regs_runs.specs.Inner.Reaches.{Reaches}
 use Rattle.regs_runs.proofs.Reach.{stays, then, keeps_all, keeps_on, did_write}
-use Rattle.transfer_fast_write_async.specs.Inner.Fills.{Leads, Filled}
+use Rattle.transfer_fast_write_async.specs.Inner.Fills.{Leads, Filled, SameFills}
 
 -- where a step leads does not depend on the point that it is made from
 pub from_any_point : (coded : Bool) (kinds lengths : List ℕ) (t : Transfer) (p : Point) (s : StepTaken)
@@ -68,14 +68,15 @@ module _ {t : Transfer} {bytes : List ℕ} where
   no_lead {r = r} fits = record {
     keeps = keeps_all;
     room = λ h. h;
-    reaches = λ coded kinds lengths b. stays (machine coded kinds lengths bytes) r.readings.now fits;
+    reaches = λ coded kinds lengths b t' alike. stays (machine coded kinds lengths bytes) r.readings.now fits;
   }
 
   pub lead_after : {s s₁ s₂ : StepTaken} {r r₁ r₂ : Recording} → Leads t bytes r s r₁ s₁ → Leads t bytes r₁ s₁ r₂ s₂ → Leads t bytes r s r₂ s₂
   lead_after x y = record {
     keeps = keeps_on x.keeps y.keeps;
     room = λ h. y.room (x.room h);
-    reaches = λ coded kinds lengths b. then (x.reaches coded kinds lengths b) (rw x.keeps.readings at (y.reaches coded kinds lengths b));
+    reaches = λ coded kinds lengths b t' alike. then (x.reaches coded kinds lengths b t' alike)
+        (rw x.keeps.readings at (y.reaches coded kinds lengths b t' alike));
   }
 
   pub lead_of : {s s' : StepTaken} {before after : Recording} {e u : ℕ} {l : List ℕ}
@@ -84,14 +85,14 @@ module _ {t : Transfer} {bytes : List ℕ} where
       → after.used ≡ u
       → after.log.now ≡ l
       → e ≤ length before.log.now / 2
-      → ((coded : Bool) (kinds lengths b : List ℕ)
-      → Reaches (machine coded kinds lengths bytes) before.readings.now (moved_to coded kinds lengths t s) before.entries
-      before.used before.log.now b (moved_to coded kinds lengths t s') e u l b)
+      → ((coded : Bool) (kinds lengths b : List ℕ) (t' : Transfer) → SameFills t t'
+      → Reaches (machine coded kinds lengths bytes) before.readings.now (moved_to coded kinds lengths t' s) before.entries
+      before.used before.log.now b (moved_to coded kinds lengths t' s') e u l b)
       → Leads t bytes before s after s'
   lead_of keeps entries used log room run = record {
     keeps = keeps;
     room = λ h. rw (entries, keeps.size) room;
-    reaches = λ coded kinds lengths b. rw (entries, used, log) (run coded kinds lengths b);
+    reaches = λ coded kinds lengths b t' alike. rw (entries, used, log) (run coded kinds lengths b t' alike);
   }
 
 -- the loop's head: n of the places are filled
@@ -124,9 +125,10 @@ module _ {t : Transfer} {bytes : List ℕ} {from : ℕ} {before : Recording} whe
             let next : from + n + 1 ≡ from + (n + 1) = omega arith in
             lead_after (g.leads places (omega (arith, few)))
             (rw (← fewer, ← next) (lead_of x.keeps x.entries x.used x.log (omega (arith, space))
-            (λ coded kinds lengths b. rw ew (word_written coded kinds lengths bytes t (from + n) (places - n)
+            (λ coded kinds lengths b t' alike. rw (ew, ← alike.len, ← alike.at, ← alike.send_stop)
+            (word_written coded kinds lengths bytes t' (from + n) (places - n)
             (stays (machine coded kinds lengths bytes) mid.readings.now small)
-            (omega (arith, few)) more space))));
+            (omega (arith, few)) (rw alike.len more) space))));
         keeps = keeps_on g.keeps x.keeps;
         entries = omega (arith, x.entries, g.entries);
         used = x.used ∙ g.used;

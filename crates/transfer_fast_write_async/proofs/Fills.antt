@@ -89,7 +89,8 @@ module _ {t : Transfer} {bytes : List ℕ} {i space count : ℕ} {r r₁ r₂ : 
       let room : r.entries + 1 ≤ length r.log.now / 2 = omega (arith, has_room s 0 (omega arith) (omega (arith, within))) in
       lead_after
       (lead_of e.keeps e.entries e.used e.log room
-      (λ coded kinds lengths b. rw e.value (counted coded kinds lengths bytes t i space
+      (λ coded kinds lengths b t' alike. rw (e.value, ← alike.len, ← alike.send_stop)
+      (counted coded kinds lengths bytes t' i space
       (stays (machine coded kinds lengths bytes) r.readings.now fits) s.some s.space_is (omega (arith, room))
       (omega (arith, s.left)))))
       (f.leads space few)
@@ -118,5 +119,5 @@ module _ {t : Transfer} {bytes : List ℕ} {i space count : ℕ} {r r₁ r₂ : 
       lead_after (rw (none, no_place t.operation.len t.operation.send_stop (i + count)) at up_to)
       (lead_of (keeps_on e₃.keeps e₄.keeps) (omega (arith, e₃.entries, e₄.entries)) (omega (arith, e₃.used, e₄.used))
       (rw (e₃.log, e₃.entries, e₃.value, e₄.value, e₃.keeps.readings, e₃.used) at e₄.log) room
-      (λ coded kinds lengths b. polled coded kinds lengths bytes t (i + count)
+      (λ coded kinds lengths b t' alike. polled coded kinds lengths bytes t' (i + count)
       (stays (machine coded kinds lengths bytes) r₂.readings.now (rw size fits)) polls room))

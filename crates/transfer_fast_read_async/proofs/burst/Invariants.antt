@@ -6,13 +6,14 @@ use Rattle.regs.specs.Inner.Recording.{room_of}
 use Rattle.transfer.specs.declared.Point.TheVariants.{ReadAsync}
 use Rattle.transfer.specs.declared.RoundPoint.TheVariants.{Capacity}
 use Rattle.transfer_fast_blocking.specs.Inner.Bursts.{Bursts, ForAny}
+use Rattle.transfer_fast_read_async.specs.Inner.Rounds.{SameRounds}
 use Rattle.transfer_fast_read_async.proofs.burst.Given as goal
 
 abbrev pub invariant-loop-plan : goal.invariant-loop-plan
 invariant-loop-plan l =
     record {
-      came : ForAny (λ (bytes : List ℕ). Bursts l.t bytes l.initial.recording l.initial.buffer (ReadAsync (Capacity l.fn.from))
-          l.recording l.buffer (ReadAsync (Capacity l.round)));
+      came : ForAny (λ (bytes : List ℕ). Bursts (SameRounds l.t) bytes l.initial.recording l.initial.buffer
+          (ReadAsync (Capacity l.fn.from)) l.recording l.buffer (ReadAsync (Capacity l.round)));
       within : l.round.remaining ≤ l.t.operation.len;
     }
 

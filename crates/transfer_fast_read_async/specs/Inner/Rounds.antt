@@ -12,10 +12,17 @@ use Rattle.transfer_fast_blocking.specs.Inner.Bursts.{Bursts}
 abbrev pub round : ℕ → ℕ → ℕ → Round
 round remaining queue batch = record { remaining = remaining; queue = queue; batch = batch }
 
+-- what a round looks at: place, length and both flags
+pub record SameRounds (t t' : Transfer) : Type 0 where
+  pub len : t'.operation.len ≡ t.operation.len
+  pub at : t'.operation.at ≡ t.operation.at
+  pub restart : t'.operation.restart ≡ t.operation.restart
+  pub send_stop : t'.operation.send_stop ≡ t.operation.send_stop
+
 -- so many words are queued
 pub record Queued (t : Transfer) (queue words : ℕ) (before after : Recording) : Type 0 where
   pub bursts : (bytes b : List ℕ) (remaining batch : ℕ)
-      → Bursts t bytes before b (ReadAsync (Queue (round remaining queue batch) words)) after b
+      → Bursts (SameRounds t) bytes before b (ReadAsync (Queue (round remaining queue batch) words)) after b
       (ReadAsync (Level (round remaining (queue - words) batch)))
   pub keeps : Keeps before after
   pub entries : after.entries ≡ before.entries + words
@@ -24,7 +31,7 @@ pub record Queued (t : Transfer) (queue words : ℕ) (before after : Recording) 
 -- so many bytes are fetched, and more remain
 pub record Fetched (t : Transfer) (remaining count : ℕ) (before : Recording) (b : List ℕ) (after : Recording) (b' : List ℕ) : Type 0 where
   pub bursts : (bytes : List ℕ) (queue batch : ℕ)
-      → Bursts t bytes before b (ReadAsync (Fetch (round remaining queue batch) count)) after b'
+      → Bursts (SameRounds t) bytes before b (ReadAsync (Fetch (round remaining queue batch) count)) after b'
       (ReadAsync (Capacity (round remaining queue batch)))
   pub keeps : Keeps before after
   pub entries : after.entries ≡ before.entries + count

@@ -22,13 +22,20 @@ pub record StraightFill (r : Recording) (i len space : ℕ) : Type 0 where
   pub last : len < i + space → r.entries + 1 + (len - i) ≤ room_of r
   pub goes_on : i + space ≤ len → Polls r.readings.now (r.used + 1) × (r.entries + space + 3 ≤ room_of r)
 
--- accesses of a transfer lead from where one step goes to where another does; the read buffer is not touched
+-- what a round looks at: place, length and STOP
+pub record SameFills (t t' : Transfer) : Type 0 where
+  pub len : t'.operation.len ≡ t.operation.len
+  pub at : t'.operation.at ≡ t.operation.at
+  pub send_stop : t'.operation.send_stop ≡ t.operation.send_stop
+
+-- accesses of each transfer that has what a round looks at of t lead from where one step goes to where another
+-- does; the read buffer is not touched
 pub record Leads (t : Transfer) (bytes : List ℕ) (before : Recording) (s : StepTaken) (after : Recording) (s' : StepTaken) : Type 0 where
   pub keeps : Keeps before after
   pub room : before.entries ≤ room_of before → after.entries ≤ room_of after
-  pub reaches : (coded : Bool) (kinds lengths b : List ℕ)
-      → Reaches (machine coded kinds lengths bytes) before.readings.now (moved_to coded kinds lengths t s) before.entries
-      before.used before.log.now b (moved_to coded kinds lengths t s') after.entries after.used after.log.now b
+  pub reaches : (coded : Bool) (kinds lengths b : List ℕ) (t' : Transfer) → SameFills t t'
+      → Reaches (machine coded kinds lengths bytes) before.readings.now (moved_to coded kinds lengths t' s) before.entries
+      before.used before.log.now b (moved_to coded kinds lengths t' s') after.entries after.used after.log.now b
 
 -- so many places are filled, of as many or more
 pub record Filled (t : Transfer) (bytes : List ℕ) (from count : ℕ) (before after : Recording) : Type 0 where

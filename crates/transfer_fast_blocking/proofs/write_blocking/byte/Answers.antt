@@ -17,7 +17,6 @@ use Rattle.transfer_fast_blocking.proofs.write_blocking.byte.Goals as goal
 pub returns-then-is_straight-clause-sent : goal.returns-then-is_straight-clause-sent
 returns-then-is_straight-clause-sent c = λ is buffer.
     let r = c.args.recording.now in
-    let t = c.args.t in
     let more = c.has.ensures c.if-has.true in
     let stat = get_or r.readings.now r.used 0 in
     let source = get_or r.readings.now (r.used + 1) 0 in
@@ -26,6 +25,6 @@ returns-then-is_straight-clause-sent c = λ is buffer.
     let write = rw (c.word_of-w.ensures, c.byte_of.ensures) at c.put_write.ensures in
     burst_put 2 (next_put (next_put (first_put write) c.put_read.ensures) c.put_read-then-is_straight.ensures)
     more.1 refl
-    (λ coded kinds lengths. byte_written coded kinds lengths c.args.bytes.now t
+    (λ coded kinds lengths t' same. rw (← same.at) (byte_written coded kinds lengths c.args.bytes.now t'
     (stays (machine coded kinds lengths c.args.bytes.now) r.readings.now (omega arith)) more.1 more.0
-    both.0 (eqb-true source 0 both.1) c.requires)
+    both.0 (eqb-true source 0 both.1) (rw same.len c.requires)))
