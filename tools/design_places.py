@@ -1,11 +1,12 @@
 #!/usr/bin/env python3
 """Counts the places that docs/DESIGN-PASS.md speaks of, point by point, in the code of crates/*/src.
 
-usage: python3 tools/design_places.py [POINT] [--count]
+usage: python3 tools/design_places.py [POINT] [--count] [--open | --kept]
 
 Run at the top of the tree, of any commit; POINT is 1 to 8, none means all. Each line is `file:line: what`,
 files below crates/; a line with the number of places closes each part of a point, and `POINT n: N` each
-point. --count writes those closing lines alone. (C) stands beside places that the C interface fixes.
+point. --count writes those closing lines alone. (C) stands beside places that the C interface fixes. --kept
+lists the places that have a reason beside them, with it, and --open those that have none (design_reasons.py).
 
 Nothing is written and no program is run: the code is read as text, taken apart by brackets (design_tree.py).
 Points 1 and 2 are in design_types.py, 3 and 4 in design_code.py, 5 to 8 here. What a search finds that is no
@@ -21,6 +22,7 @@ sys.dont_write_bytecode = True
 from design_code import point3, point4
 from design_tree import FNS, TEXTS, TYPES, at_line, balanced, blocks, crate, fields, files, is_c, line_of
 from design_tree import mark_c, one_space, split_top
+from design_reasons import reason
 from design_types import point1, point2
 
 # ---- point 5 ----
@@ -249,13 +251,22 @@ def point8():
 POINTS = dict(zip("12345678", (point1, point2, point3, point4, point5, point6, point7, point8)))
 
 
+def asked_for(file, line, what, counted):
+    if "--open" in sys.argv or "--kept" in sys.argv:
+        return counted and (reason(file, line, what) is not None) == ("--kept" in sys.argv)
+    return True
+
+
 def main():
     asked = [a for a in sys.argv[1:] if not a.startswith("-")] or list(POINTS)
     for p in asked:
         total = 0
         for title, part in POINTS[p]():
+            part = [x for x in part if asked_for(*x, counted=not title.endswith("not counted"))]
             for file, line, what in part if "--count" not in sys.argv else []:
                 print(f"{file}:{line}: {what}")
+                if "--kept" in sys.argv:
+                    print(f"    {reason(file, line, what)}")
             print(f"{title}: {len(part)}")
             total += 0 if title.endswith("not counted") else len(part)
         print(f"POINT {p}: {total}")
