@@ -1,6 +1,6 @@
 -- `listen`, byte after byte.
 use Rattle.std.specs.Prelude.{Some}
-use Prim.Native.Nat.{ℕ, ◌+◌, ◌/◌, ◌-◌, ◌<◌, ◌≤◌, ◌^◌}
+use Prim.Native.Nat.{ℕ, ◌+◌, ◌*◌, ◌/◌, ◌-◌, ◌<◌, ◌≤◌, ◌^◌}
 use native.Mathlib.Omega.{arith}
 use mathlib.Core.Bool.{true, false, not, ◌&&◌}
 use mathlib.Core.List.{List}
@@ -23,6 +23,7 @@ use Rattle.regs.specs.declared.access.Recording.{Recording}
 use Rattle.regs_runs.specs.Inner.Puts.{Puts}
 use Rattle.slave_fast_bytes.specs.declared.listen.Message.{Message}
 use Rattle.slave_fast_bytes.specs.Inner.Bursts.{Drains, straight_byte}
+use Rattle.slave_fast_bytes.proofs.Polling.{no_drain, drains_on}
 
 module _ (bytes : List ℕ) {readings : List ℕ} (me : SlaveState) {s₀ : Slave} {e₀ u₀ : ℕ} {l₀ b₀ : List ℕ}
     (places stat i : ℕ) {e u : ℕ} {l b : List ℕ} where
@@ -75,3 +76,28 @@ byte_stored {m} {before} put left room fits more straight eb =
           (stays (machine bytes) before.readings.now fits) room left
           both.0 (not-true next both.1) (omega (arith, more)));
     }
+
+-- the head of the loop, after so many bytes
+pub record Draining (from : Message) (before : Recording) (b : List ℕ) (n : ℕ) (to : Message) (after : Recording)
+    (b' : List ℕ) : Type 0 where
+  pub came : Drains from before b to after b'
+  pub index : to.index ≡ from.index + n
+  pub used : after.used ≡ before.used + n * 2
+  pub entries : after.entries ≡ before.entries + n * 2
+
+pub none_drained : {m : Message} {r : Recording} {b : List ℕ} → length r.log.now < 2 ^ 64 → Draining m r b 0 m r b
+none_drained fits = record { came = no_drain fits; index = omega arith; used = omega arith; entries = omega arith }
+
+pub one_drained : {from m m' : Message} {before r r' : Recording} {b c c' : List ℕ} {n : ℕ}
+    → Draining from before b n m r c
+    → Drains m r c m' r' c'
+    → m'.index ≡ m.index + 1
+    → r'.used ≡ r.used + 2
+    → r'.entries ≡ r.entries + 2
+    → Draining from before b (n + 1) m' r' c'
+one_drained d next i u e = record {
+  came = drains_on d.came next;
+  index = omega (arith, i, d.index);
+  used = omega (arith, u, d.used);
+  entries = omega (arith, e, d.entries);
+}

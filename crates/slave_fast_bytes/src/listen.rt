@@ -4,6 +4,8 @@ ghost use Rattle.std.specs.Prelude.{true, List, ◌≡◌, ℕ, ◌<◌, ◌≤�
 ghost use Rattle.regs_runs.specs.Inner.Puts.{Grows};
 ghost use Rattle.slave_fast_bytes.specs.Inner.Bursts.{Drains, ForAny, straight_byte, straight_poll};
 
+use super::times;
+use counts::least;
 use regs::access::Recording;
 use regs::fields::{byte_of, has_rd_req, has_stop_det, is_first_data_byte, is_not_empty, level_of};
 use regs_runs::has;
@@ -30,25 +32,25 @@ fn is_straight_poll(stat: u32, status: u32, filled: u32) -> bool
 }
 
 impl Message {
-    // A byte, if one is there that has a place before the last, and whether it was stored.
-    fn byte(&mut self, recording: &mut Recording, buffer: &mut [u8]) -> bool
+    // Byte after byte before the last place, while they lead straight on. Places, readings and log are
+    // counted once and not at each byte, where the tests would take as long as the byte itself.
+    fn bytes(&mut self, recording: &mut Recording, buffer: &mut [u8])
         requires within { self.old.places ≤ length buffer.old }
-        ensures drains { Drains self.old recording.old buffer.old self.new recording.new buffer.new }
-        ensures stored { result ≡ true → Grows recording.old recording.new }
+        ensures { Drains self.old recording.old buffer.old self.new recording.new buffer.new }
     {
-        if 1 < self.places.saturating_sub(self.index) && has(recording, 2, 2) {
+        let places = usize::from(self.places.saturating_sub(self.index).saturating_sub(1));
+        for _ in 0..least(places, times(recording, 2, 2)) {
             let status = recording.readings[recording.used];
             let word = recording.readings[recording.used + 1];
-            if is_straight(self.index, status, word) {
-                recording.put_read(regs::STATUS, status);
-                recording.put_read(regs::DATA_CMD, word);
-                recording.used += 2;
-                buffer[usize::from(self.index)] = byte_of(word);
-                self.index += 1;
-                return true;
+            if !is_straight(self.index, status, word) {
+                break;
             }
+            recording.put_read(regs::STATUS, status);
+            recording.put_read(regs::DATA_CMD, word);
+            recording.used += 2;
+            buffer[usize::from(self.index)] = byte_of(word);
+            self.index += 1;
         }
-        false
     }
 
     // The empty FIFO and the next poll, if it finds bytes again, and whether it was made.
@@ -76,13 +78,18 @@ impl Message {
         false
     }
 
-    // Byte after byte and poll after poll, where the places are within the buffer. It stays a `while`: each
-    // of the two looks at what the one before it left.
+    // Bytes and poll after poll, where the places are within the buffer. It stays a `loop`: whether a poll
+    // finds bytes again is known only behind those before it.
     pub fn burst(&mut self, recording: &mut Recording, buffer: &mut [u8])
         ensures { Drains self.old recording.old buffer.old self.new recording.new buffer.new }
     {
         if usize::from(self.places) <= buffer.len() {
-            while self.byte(recording, buffer) || self.poll(recording) {}
+            loop {
+                self.bytes(recording, buffer);
+                if !self.poll(recording) {
+                    break;
+                }
+            }
         }
     }
 }

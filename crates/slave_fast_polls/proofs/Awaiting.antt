@@ -1,9 +1,9 @@
 -- Polls of `listen` that find nothing.
-use Prim.Native.Nat.{ℕ, ◌+◌, ◌/◌, ◌<◌, ◌≤◌, ◌^◌}
+use Prim.Native.Nat.{ℕ, ◌+◌, ◌*◌, ◌/◌, ◌<◌, ◌≤◌, ◌^◌}
 use native.Mathlib.Omega.{arith}
-use mathlib.Core.Bool.{Bool, true, not, ◌&&◌, and-false}
-use mathlib.Core.List.{List, [], ◌∷◌}
-use mathlib.Core.Path.{◌≡◌, refl, sym, ◌∙◌}
+use mathlib.Core.Bool.{true, not, ◌&&◌, and-false}
+use mathlib.Core.List.{List}
+use mathlib.Core.Path.{◌≡◌, refl}
 use lib.Dec.{eqb}
 use lib.ListN.{length, get_or}
 use borrow.Author.Tests.{le-ltb, ne_eqb, eqb-true, not-true}
@@ -20,8 +20,7 @@ use Rattle.slave_steps.specs.declared.Slave.{Slave}
 use Rattle.slave_steps.specs.declared.Point.TheVariants.{Listening}
 use Rattle.regs_runs.specs.Inner.Reaches.{Reaches}
 use Rattle.regs.specs.declared.access.Recording.{Recording}
-use Rattle.regs.specs.declared.access.Entry.TheVariants.{Read, Write, Marked}
-use Rattle.regs_runs.specs.Inner.Puts.{Polled}
+use Rattle.regs_runs.specs.Inner.Puts.{Puts}
 use Rattle.regs_runs.proofs.Reach.{stays, then, keeps_all, keeps_on, did_read, did_write, did_mark}
 use Rattle.slave_fast_polls.specs.Inner.Idles.{Awaits, idle_listen}
 
@@ -64,7 +63,7 @@ module _ (bytes : List ℕ) {readings : List ℕ} (me : SlaveState) (none : me.p
       let q₄ : e + 4 ≡ e + 3 + 1 = omega arith in
       did_mark g₃ {x = PENDING} refl (omega (arith, room)) refl q₄
 
--- no poll, one poll after the other, and a poll's entries with its readings
+-- no poll, and one poll after the other
 pub no_wait : {r : Recording} → length r.log.now < 2 ^ 64 → Awaits r r
 no_wait {r} fits = record {
   keeps = keeps_all;
@@ -80,16 +79,34 @@ wait_after x y = record {
       (rw x.keeps.readings at (y.reaches bytes me places i b none more));
 }
 
-pub waited : {before after : Recording} {quiet : Bool}
-    → quiet ≡ idle_listen (get_or before.readings.now before.used 0) (get_or before.readings.now (before.used + 1) 0)
-    → length before.log.now < 2 ^ 64
-    → Polled before quiet 2
-    (Read RAW_INTR_STAT (get_or before.readings.now before.used 0) ∷ Read RXFLR (get_or before.readings.now (before.used + 1) 0)
-    ∷ Write INTR_MASK 0x1a24 ∷ Marked PENDING ∷ []) after
-    → Awaits before after
-waited {before} {after} {quiet} is fits p = record {
-  keeps = p.keeps;
-  room = λ h. rw (p.entries, p.keeps.size) p.room;
-  reaches = λ bytes me places i b none more. rw (p.entries, p.used, p.log)
-      (poll_awaits bytes me none places i (stays (machine bytes) before.readings.now fits) more (sym is ∙ p.nothing) p.room p.left);
+-- the head of the loop, after so many polls
+pub record Awaiting (before : Recording) (n : ℕ) (after : Recording) : Type 0 where
+  pub awaits : Awaits before after
+  pub used : after.used ≡ before.used + n * 2
+  pub entries : after.entries ≡ before.entries + n * 4
+
+pub none_waited : {r : Recording} → length r.log.now < 2 ^ 64 → Awaiting r 0 r
+none_waited fits = record { awaits = no_wait fits; used = omega arith; entries = omega arith }
+
+pub one_waited : {before r mid : Recording} {n : ℕ}
+    → Awaiting before n r
+    → Puts r 4
+    (entered (entered (entered (entered r.log.now r.entries (0x100 + RAW_INTR_STAT) (get_or r.readings.now r.used 0))
+    (r.entries + 1) (0x100 + RXFLR) (get_or r.readings.now (r.used + 1) 0))
+    (r.entries + 2) (0x200 + INTR_MASK) 0x1a24)
+    (r.entries + 3) (0x300 + PENDING) 0) mid
+    → length r.log.now < 2 ^ 64
+    → r.used + 2 ≤ length r.readings.now
+    → r.entries + 4 ≤ length r.log.now / 2
+    → idle_listen (get_or r.readings.now r.used 0) (get_or r.readings.now (r.used + 1) 0) ≡ true
+    → Awaiting before (n + 1) (record mid { used = mid.used + 2 })
+one_waited {r = r} g put fits left room quiet = record {
+  awaits = wait_after g.awaits (record {
+    keeps = record { readings = put.keeps.readings; loan = put.keeps.loan; size = put.keeps.size };
+    room = λ h. rw (put.entries, put.keeps.size) room;
+    reaches = λ bytes me places i b none more. rw (put.entries, put.used, put.log)
+        (poll_awaits bytes me none places i (stays (machine bytes) r.readings.now fits) more quiet room left);
+  });
+  used = omega (arith, put.used, g.used);
+  entries = omega (arith, put.entries, g.entries);
 }

@@ -1,9 +1,9 @@
 -- Polls that find nothing to do.
-use Prim.Native.Nat.{ℕ, ◌+◌, ◌/◌, ◌<◌, ◌≤◌, ◌^◌}
+use Prim.Native.Nat.{ℕ, ◌+◌, ◌*◌, ◌/◌, ◌<◌, ◌≤◌, ◌^◌}
 use native.Mathlib.Omega.{arith}
-use mathlib.Core.Bool.{Bool, true, not, ◌&&◌}
-use mathlib.Core.List.{List, [], ◌∷◌}
-use mathlib.Core.Path.{◌≡◌, refl, sym, ◌∙◌}
+use mathlib.Core.Bool.{true, not, ◌&&◌}
+use mathlib.Core.List.{List}
+use mathlib.Core.Path.{◌≡◌, refl}
 use lib.ListN.{length, get_or}
 use borrow.Author.Tests.{le-ltb, not-true}
 use Rattle.regs.proofs.Tests.{both_of}
@@ -20,8 +20,7 @@ use Rattle.slave_steps.specs.declared.Slave.{Slave}
 use Rattle.slave_steps.specs.declared.Point.TheVariants.{Responding}
 use Rattle.regs_runs.specs.Inner.Reaches.{Reaches}
 use Rattle.regs.specs.declared.access.Recording.{Recording}
-use Rattle.regs.specs.declared.access.Entry.TheVariants.{Read, Write, Marked}
-use Rattle.regs_runs.specs.Inner.Puts.{Polled}
+use Rattle.regs_runs.specs.Inner.Puts.{Puts}
 use Rattle.regs_runs.proofs.Reach.{stays, then, keeps_all, keeps_on, did_read}
 use Rattle.slave_fast_polls.specs.Inner.Idles.{Idles, idle_poll}
 use Rattle.slave_fast_bytes.proofs.Sending.{waits}
@@ -53,7 +52,7 @@ module _ (bytes : List ℕ) {readings : List ℕ} (me : SlaveState) (job : Job) 
       let q₃ : e + 1 + 2 ≡ e + 3 = omega arith in
       rw (q₂, q₃) at (waits bytes me job count i i g₁ (omega (arith, room)))
 
--- no poll, one poll after the other, and a poll's entries with its readings
+-- no poll, and one poll after the other
 pub no_idle : {r : Recording} → length r.log.now < 2 ^ 64 → Idles r r
 no_idle {r} fits = record {
   keeps = keeps_all;
@@ -69,16 +68,33 @@ idle_after x y = record {
       (rw x.keeps.readings at (y.reaches bytes me job count i b sent));
 }
 
-pub idled : {before after : Recording} {quiet : Bool}
-    → quiet ≡ idle_poll (get_or before.readings.now before.used 0)
-    → length before.log.now < 2 ^ 64
-    → Polled before quiet 1
-    (Read RAW_INTR_STAT (get_or before.readings.now before.used 0) ∷ Write INTR_MASK 0xd0 ∷ Marked PENDING ∷ []) after
-    → Idles before after
-idled {before} {after} {quiet} is fits p = record {
-  keeps = p.keeps;
-  room = λ h. rw (p.entries, p.keeps.size) p.room;
-  reaches = λ bytes me job count i b sent. rw (p.entries, p.used, p.log)
-      (poll_idle bytes me job count i (stays (machine bytes) before.readings.now fits) sent (sym is ∙ p.nothing) p.room
-      (omega (arith, p.left)));
+-- the head of the loop, after so many polls
+pub record Idling (before : Recording) (n : ℕ) (after : Recording) : Type 0 where
+  pub idles : Idles before after
+  pub used : after.used ≡ before.used + n
+  pub entries : after.entries ≡ before.entries + n * 3
+
+pub none_idled : {r : Recording} → length r.log.now < 2 ^ 64 → Idling r 0 r
+none_idled fits = record { idles = no_idle fits; used = omega arith; entries = omega arith }
+
+pub one_idled : {before r mid : Recording} {n : ℕ}
+    → Idling before n r
+    → Puts r 3
+    (entered (entered (entered r.log.now r.entries (0x100 + RAW_INTR_STAT) (get_or r.readings.now r.used 0))
+    (r.entries + 1) (0x200 + INTR_MASK) 0xd0)
+    (r.entries + 2) (0x300 + PENDING) 0) mid
+    → length r.log.now < 2 ^ 64
+    → r.used < length r.readings.now
+    → r.entries + 3 ≤ length r.log.now / 2
+    → idle_poll (get_or r.readings.now r.used 0) ≡ true
+    → Idling before (n + 1) (record mid { used = mid.used + 1 })
+one_idled {r = r} g put fits left room quiet = record {
+  idles = idle_after g.idles (record {
+    keeps = record { readings = put.keeps.readings; loan = put.keeps.loan; size = put.keeps.size };
+    room = λ h. rw (put.entries, put.keeps.size) room;
+    reaches = λ bytes me job count i b sent. rw (put.entries, put.used, put.log)
+        (poll_idle bytes me job count i (stays (machine bytes) r.readings.now fits) sent quiet room left);
+  });
+  used = omega (arith, put.used, g.used);
+  entries = omega (arith, put.entries, g.entries);
 }

@@ -1,13 +1,12 @@
 // Polls that find nothing to do: INTR_MASK is set, and the next poll comes.
 #![tactic(auto)]
 
-ghost use Rattle.std.specs.Prelude.{true, ◌≡◌};
-ghost use Rattle.regs_runs.specs.Inner.Puts.{Grows};
+ghost use Rattle.std.specs.Prelude.{◌≡◌};
 ghost use Rattle.slave_fast_polls.specs.Inner.Idles.{Idles, idle_poll, Awaits, idle_listen};
 
-use regs::access::{Entry, Recording};
+use regs::access::Recording;
 use regs::fields::{has_rd_req, has_rx_done, has_stop_det, has_tx_abrt, has_tx_empty, level_of};
-use regs_runs::{ahead, poll};
+use slave_fast_bytes::times;
 
 fn is_idle(stat: u32) -> bool
     ensures { result ≡ idle_poll stat }
@@ -15,27 +14,21 @@ fn is_idle(stat: u32) -> bool
     !has_tx_abrt(stat) & (!has_rx_done(stat) & !(has_rd_req(stat) & has_tx_empty(stat)))
 }
 
-// One poll of a response whose bytes are all sent, if it finds nothing, and whether it did.
-fn idle(recording: &mut Recording) -> bool
-    ensures idles { Idles recording.old recording.new }
-    ensures found_nothing { result ≡ true → Grows recording.old recording.new }
-{
-    let stat = ahead(recording, 0);
-    let entries = [
-        Entry::Read(regs::RAW_INTR_STAT, stat),
-        Entry::Write(regs::INTR_MASK, slave_respond::MASK),
-        Entry::Marked(regs::PENDING),
-    ];
-    poll(recording, is_idle(stat), 1, &entries)
-}
-
-// Of a response whose bytes are all sent. This and `listen` stay two, as do the waits of the master: each
-// names its own registers, and `regs_runs::poll` is what they share. The loop stays a `while`: a poll
-// is counted by the log that it fills, and not by an iterator.
+// Of a response whose bytes are all sent. This and `listen` stay two: each names its own registers. How many
+// polls readings and log allow is counted once: tests of both at each poll took as long as the poll itself.
 pub fn respond(recording: &mut Recording)
     ensures { Idles recording.old recording.new }
 {
-    while idle(recording) {}
+    for _ in 0..times(recording, 1, 3) {
+        let stat = recording.readings[recording.used];
+        if !is_idle(stat) {
+            break;
+        }
+        recording.put_read(regs::RAW_INTR_STAT, stat);
+        recording.put_write(regs::INTR_MASK, slave_respond::MASK);
+        recording.put_mark(regs::PENDING);
+        recording.used += 1;
+    }
 }
 
 fn is_idle_listen(stat: u32, filled: u32) -> bool
@@ -44,25 +37,20 @@ fn is_idle_listen(stat: u32, filled: u32) -> bool
     !has_rd_req(stat) & (!has_stop_det(stat) & (level_of(filled) == 0))
 }
 
-// One poll of `listen` with no byte pending, if it finds nothing, and whether it did.
-fn wait(recording: &mut Recording) -> bool
-    ensures awaits { Awaits recording.old recording.new }
-    ensures found_nothing { result ≡ true → Grows recording.old recording.new }
-{
-    let stat = ahead(recording, 0);
-    let filled = ahead(recording, 1);
-    let entries = [
-        Entry::Read(regs::RAW_INTR_STAT, stat),
-        Entry::Read(regs::RXFLR, filled),
-        Entry::Write(regs::INTR_MASK, slave_listen::MASK),
-        Entry::Marked(regs::PENDING),
-    ];
-    poll(recording, is_idle_listen(stat, filled), 2, &entries)
-}
-
 // Of `listen`, with no byte pending.
 pub fn listen(recording: &mut Recording)
     ensures { Awaits recording.old recording.new }
 {
-    while wait(recording) {}
+    for _ in 0..times(recording, 2, 4) {
+        let stat = recording.readings[recording.used];
+        let filled = recording.readings[recording.used + 1];
+        if !is_idle_listen(stat, filled) {
+            break;
+        }
+        recording.put_read(regs::RAW_INTR_STAT, stat);
+        recording.put_read(regs::RXFLR, filled);
+        recording.put_write(regs::INTR_MASK, slave_listen::MASK);
+        recording.put_mark(regs::PENDING);
+        recording.used += 2;
+    }
 }

@@ -1,11 +1,6 @@
--- `respond`: the polls so far found nothing, and each puts entries, so the room in the log decreases.
-use Prim.Native.Nat.{◌-◌}
-use Rattle.regs.specs.Inner.Recording.{room_of}
-use Rattle.slave_fast_polls.specs.Inner.Idles.{Idles}
+-- `respond`: the polls so far found nothing, and each took a reading and three entries.
+use Rattle.slave_fast_polls.proofs.Idling.{Idling}
 use Rattle.slave_fast_polls.proofs.respond.Given as goal
 
 abbrev pub invariant-loop : goal.invariant-loop
-invariant-loop l = Idles l.initial.recording l.recording
-
-abbrev pub decreases-loop : goal.decreases-loop
-decreases-loop l = room_of l.initial.recording - l.recording.entries
+invariant-loop l = Idling l.initial.recording l.counter l.recording
