@@ -1,16 +1,17 @@
 -- The code of the lanes by their quarters, each taken byte by byte beside the others. By `behind_part` (Moved.antt).
 use Prim.Native.Nat.{ℕ, ◌+◌, ◌<◌, ◌≤◌}
+use native.Mathlib.Numerals.{add-one}
 use native.Mathlib.Omega.{arith}
 use mathlib.Core.Bool.{false, xor}
-use mathlib.Core.List.{List}
+use mathlib.Core.List.{List, [], ◌∷◌}
 use mathlib.Core.Path.{◌≡◌, sym, ap, ap₂, ◌∙◌}
 use lib.Bits.{bit_xor, xor_lt}
 use lib.Dec.{lit<, lit≤}
 use lib.ListN.{length, take, drop, get_or, length-drop, take-append-drop}
-use lib.Seq.{take_all, drop-drop, length-take-le, get_or-take, get_or-drop}
+use lib.Seq.{take_all, take-suc, drop-drop, length-take-le, get_or-take, get_or-drop}
 use Rattle.std.specs.Prelude.{fold}
 use Rattle.std.specs.Simd.{first_chunks}
-use Rattle.crc8.specs.Crc8.{after_bit, crc8_from, crc8}
+use Rattle.crc8.specs.Crc8.{after_bit, after_byte, crc8_from, crc8}
 use Rattle.crc8.specs.Inner.Lanes.{LANES, PART, after_zero}
 use Rattle.crc8.proofs.Back.{bit_below}
 use Rattle.crc8.proofs.Laws.{is_byte, in_parts}
@@ -75,3 +76,38 @@ quarters lanes e =
     let third : drop PART (drop PART lanes) ≡ drop 32 lanes = drop-drop PART PART lanes in
     let fourth : drop PART (drop PART (drop PART lanes)) ≡ drop 48 lanes = ap (drop PART) third ∙ drop-drop PART 32 lanes in
     ap₂ join (ap (take PART) third) (ap (take PART) fourth) ∙ sym (by_quarters lanes e)
+
+-- ---- the loop
+
+-- the code of the first j bytes of the quarter from k on
+abbrev pub code_so_far : ℕ → List ℕ → ℕ → ℕ
+code_so_far k lanes j = crc8 (take j (drop k lanes))
+
+pub a_byte_on : (k i j : ℕ) (lanes : List ℕ) (r v : ℕ) → k + j ≡ i → i < length lanes
+    → r ≡ code_so_far k lanes j
+    → v ≡ after_byte r (get_or lanes i 0)
+    → v ≡ code_so_far k lanes (j + 1)
+unfolding crc8_from
+a_byte_on k i j lanes r v e h f g =
+    let inside : j < length (drop k lanes) = omega (arith, length-drop k lanes) in
+    let x = get_or (drop k lanes) j 0 in
+    let same : x ≡ get_or lanes i 0 = get_or-drop k lanes j 0 ∙ ap (λ (n : ℕ). get_or lanes n 0) e in
+    g ∙ ap₂ after_byte f (sym same)
+    ∙ sym (in_parts 0 (take j (drop k lanes)) (x ∷ []))
+    ∙ ap crc8 (sym (take-suc (drop k lanes) j 0 inside) ∙ ap (λ (n : ℕ). take n (drop k lanes)) (sym (add-one j)))
+
+-- the four codes made one
+pub joined : (lanes : List ℕ) (a b c d u v w j : ℕ) → length lanes ≡ LANES → j ≡ PART
+    → a ≡ code_so_far 0 lanes j
+    → b ≡ code_so_far 16 lanes j
+    → c ≡ code_so_far 32 lanes j
+    → d ≡ code_so_far 48 lanes j
+    → u ≡ after_zero a
+    → v ≡ after_zero (bit_xor u b)
+    → w ≡ after_zero (bit_xor v c)
+    → bit_xor w d ≡ crc8 lanes
+joined lanes a b c d u v w j size end e f g h p q s =
+    let one = p ∙ ap after_zero (e ∙ ap (code_so_far 0 lanes) end) in
+    let two = q ∙ ap after_zero (ap₂ bit_xor one (f ∙ ap (code_so_far 16 lanes) end)) in
+    let three = s ∙ ap after_zero (ap₂ bit_xor two (g ∙ ap (code_so_far 32 lanes) end)) in
+    ap₂ bit_xor three (h ∙ ap (code_so_far 48 lanes) end) ∙ sym (by_quarters lanes size)

@@ -45,13 +45,24 @@ fn first_block(start: u8, bytes: &[u8]) -> [u8; 64]
 }
 
 impl Table {
-    // The code of the lanes, quarter by quarter. A lookup waits for the one before it, and no quarter waits
-    // for another, so four go side by side; 16 zero bytes act as one zero bit, so `after_zero` joins them.
+    // The code of the lanes. A lookup waits for the one before it, so four quarters go side by side in one
+    // loop; 16 zero bytes act as one zero bit, so `after_zero` joins them.
     fn code_of_lanes(&self, lanes: &[u8; 64]) -> u8
         ensures { result ≡ crc8 lanes.now }
     {
-        let (quarters, _) = lanes.as_chunks::<16>();
-        quarters.iter().fold(0, |crc, quarter| after_zero(crc) ^ self.crc8_by(0, quarter))
+        let mut a = 0;
+        let mut b = 0;
+        let mut c = 0;
+        let mut d = 0;
+        for j in 0..16 {
+            a = self.looked_up(a, lanes[j]);
+            b = self.looked_up(b, lanes[j + 16]);
+            c = self.looked_up(c, lanes[j + 32]);
+            d = self.looked_up(d, lanes[j + 48]);
+        }
+        let ab = after_zero(a) ^ b;
+        let abc = after_zero(ab) ^ c;
+        after_zero(abc) ^ d
     }
 
     // The code of a message by the lanes.
