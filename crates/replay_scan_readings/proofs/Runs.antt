@@ -194,6 +194,7 @@ ran s chunk rs₀ xs n e narrow p h =
     let ready = is_ready s e in
     record {
       went = by_open s chunk rs₀ xs n e narrow p ready.open_call ready.part ready.call ready.wants h;
+      after = λ l. refl;
       inside = p.inside;
       none = λ z. absurd (omega arith);
     }
@@ -202,6 +203,7 @@ pub ran_not : (s : State) (chunk rs : List ℕ) → RanAs s chunk rs s rs 0
 ran_not s chunk rs =
     record {
       went = λ t ks ls bs b l out g. record { same = λ input. refl; sound = g };
+      after = λ h. absurd (omega arith);
       inside = omega arith;
       none = λ z. (refl, refl);
     }

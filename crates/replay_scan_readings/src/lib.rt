@@ -145,7 +145,7 @@ fn reopened(call: Option<Open>, count: usize) -> Option<Open>
 }
 
 // The reader behind n lines of readings, with which the call has `count`.
-fn after_run(s: State, n: usize, count: usize) -> State
+pub fn after_run(s: State, n: usize, count: usize) -> State
     ensures after { result ≡ state_after s n count }
     ensures in_range { s.line < 4294967296 }
 {

@@ -6,7 +6,7 @@ use Rattle.replay_calls.specs.Calls.{MOST_READINGS}
 use Rattle.replay_calls.specs.declared.Call.{Call}
 use Rattle.replay_session.specs.Session.{complete}
 use Rattle.replay_session.specs.Inner.Bounded.{Kept, within}
-use Rattle.replay_session.specs.Inner.Enter.{opened}
+use Rattle.replay_session.specs.Inner.Enter.{counts_of, opened}
 use Rattle.replay_session.specs.declared.Wants.{Wants}
 use Rattle.replay_session.specs.declared.Wants.TheVariants.{Nothing}
 use Rattle.replay_session.specs.declared.Counts.{Counts}
@@ -99,10 +99,11 @@ state_after s n count = record {
   session = record { call = reopened s.session.call count; slave = s.session.slave };
 }
 
--- the chunk begins with n lines of readings, which are stored and behind which the reader is; where there are none,
--- it is where it was
+-- the chunk begins with n lines of readings, which are stored and behind which the reader is, in the state of `after_run`;
+-- where there are none, it is where it was
 pub record RanAs (s : State) (chunk rs₀ : List ℕ) (s' : State) (rs : List ℕ) (n : ℕ) : Type 0 where
   pub went : (t ks ls bs b l : List ℕ) (out : Out) → Sound (whole s t ks ls bs rs₀ b l)
       → Went (whole s t ks ls bs rs₀ b l) out chunk (whole s' t ks ls bs rs b l) out (drop (n * 11) chunk)
+  pub after : 0 < n → s' ≡ state_after s n (min (counts_of s.session.call).readings (length rs₀) + n)
   pub inside : n * 11 ≤ length chunk
   pub none : n ≡ 0 → (s' ≡ s) × (rs ≡ rs₀)
