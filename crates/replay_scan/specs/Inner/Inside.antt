@@ -1,6 +1,7 @@
 -- Bytes inside a line, read. Contracts of inner functions cite it.
 use Rattle.std.specs.Prelude.{ℕ, ◌+◌, ◌≤◌, List, [], ◌≡◌}
 use Rattle.replay_calls.specs.Inner.Runs.{MOST_TEXT}
+use Rattle.replay_session.specs.Inner.Enter.{arrays_of}
 use Rattle.replay_state.specs.Inner.Rest.{Sound, Went, reader_of}
 use Rattle.replay_state.specs.declared.Reader.{Reader}
 
@@ -14,3 +15,9 @@ WentInside before bytes after =
     Sound (reader_of before)
     → Went (reader_of before) before.work.text bytes (reader_of after) after.work.text []
     × (after.work.text.at ≤ before.work.text.at + MOST_TEXT)
+
+-- no call is run: whatever the reader holds, the slices of the call, the buffer and the log are as they were
+pub record NoCall (before after : Reader) : Type 0 where
+  pub lists : arrays_of after.lists ≡ arrays_of before.lists
+  pub buffer : after.work.buffer.now ≡ before.work.buffer.now
+  pub log : after.work.log.now ≡ before.work.log.now
