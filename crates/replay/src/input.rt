@@ -73,6 +73,7 @@ pub fn at_end(end: End, reader: &mut Reader)
     ensures same { SameReader reader.old reader.new }
     ensures printed { AtEnd end (reader_of reader.old)
         reader.new.work.text.out.now reader.new.work.text.at }
+    ensures kept { reader.new.text.now ≡ reader.old.text.now }
 {
     if end == End::Ended {
         replay_feed::finish(reader);

@@ -2,7 +2,7 @@
 // run in order, answers out, in lent slices of fixed size.
 #![tactic(auto)]
 
-ghost use Rattle.std.specs.Prelude.{◌+◌, ◌<◌, ◌≤◌, length};
+ghost use Rattle.std.specs.Prelude.{◌≡◌, ◌+◌, ◌<◌, ◌≤◌, length};
 ghost use Rattle.text_hex.specs.Added.{Room};
 ghost use Rattle.replay_calls.specs.Inner.Runs.{MOST_TEXT};
 ghost use Rattle.replay_state.specs.Inner.Rest.{SameReader, Sound, reader_of};
@@ -68,6 +68,7 @@ pub fn finish(reader: &mut Reader)
     ensures finished { Finished
         (reader_of reader.old)
         reader.new.work.text.out.now reader.new.work.text.at }
+    ensures kept { reader.new.text.now ≡ reader.old.text.now }
 {
     reader.work.text.at = 0;
     if reader.state.is_begun() {

@@ -23,6 +23,7 @@ pub fn line_feed(reader: &mut Reader)
         (reader_of reader.new) reader.new.work.text []
         × (reader.new.work.text.at ≤ reader.old.work.text.at + MOST_TEXT)
         × (begun_of reader.new.state.part ≡ false) }
+    ensures kept { reader.new.text.now ≡ reader.old.text.now }
 {
     let s = reader.state;
     match s.part {
