@@ -35,6 +35,16 @@ impl Log {
         }
     }
 
+    // With these words, as far as there is room: what a caller kept in words of its own. `words` gives them back.
+    pub fn of(words: &[u32]) -> Log
+        ensures { result ≡ take 16384 words.now }
+    {
+        let used = LOG_WORDS.min(words.len());
+        let mut all = [0; LOG_WORDS];
+        all[..used].copy_from_slice(&words[..used]);
+        Log { words: all, used }
+    }
+
     // The words that are used.
     pub fn words(&self) -> &[u32]
         ensures same { result.now ≡ self.now }
