@@ -55,7 +55,7 @@ fn draw_all(
     out: &mut [u8; ROOM],
 ) -> Stopped {
     let mut source = text_stdin::start();
-    let mut kept = svg_lines::start();
+    let mut kept = svg_lines::begin(log);
     let mut written = true;
     // A proved loop ends, so it counts its turns up to a number that no run reaches.
     for _ in 0..u64::MAX {

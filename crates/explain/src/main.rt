@@ -32,7 +32,7 @@ fn explain_all(
     out: &mut [u8; ROOM],
 ) -> Result<End, std::io::Error> {
     let mut source = text_stdin::start();
-    let mut call = explain_lines::start();
+    let mut call = explain_lines::begin(log);
     // A proved loop ends, so it counts its turns up to a number that no run reaches.
     for _ in 0..u64::MAX {
         let l = next_line(rt, source, chunk, line);

@@ -17,5 +17,7 @@ written {c} {log} (goes {line = line} {ls = ls} s k) =
     (λ i. s.text i ++ written k i) ∙ ap (λ (o : Open). line_text (open_of c log) line ++ explained_from o ls) s.after
 
 pub every_input : EveryInput
-every_input text input ls room h e k =
-    written k ∙ (ap explained_all e ∙ cut_lines room h (closed 0) (lines input))
+every_input log text input c ls room h e b k =
+    written k
+    ∙ ((λ i. explained_from (open_of (b.call i) (b.empty i)) ls)
+    ∙ (ap explained_all e ∙ cut_lines room h (closed 0) (lines input)))

@@ -1,8 +1,8 @@
--- The claim over calls of `explain_line` one after the other.
+-- The claim over a call of `begin` and calls of `explain_line` one after the other behind it.
 use Rattle.std.specs.Prelude.{ℕ, ◌≤◌, List, [], ◌∷◌, ◌++◌, map, ◌≡◌, take}
 use Rattle.text_hex.specs.Text.{lines}
 use Rattle.explain_lines.specs.Printed.{explained_input}
-use Rattle.explain_lines.specs.Inner.Said.{start_call, SaidAs}
+use Rattle.explain_lines.specs.Inner.Said.{BegunAs, SaidAs}
 use Rattle.explain_lines.specs.declared.Call.{Call}
 use Rattle.explain_lines.specs.declared.Said.{Said}
 
@@ -14,10 +14,12 @@ pub data Calls : Call → List ℕ → List (List ℕ) → List ℕ → Type 0 w
       → Calls r.call log' ls text
       → Calls c log (line ∷ ls) (take r.made out ++ text)
 
--- whoever makes such calls from an empty log with the lines of an input, each cut at its buffer's end, has written what Printed says of the input
+-- whoever makes a call of `begin`, over any log, and then such calls with the lines of an input, each cut at its buffer's end, has written
+-- what Printed says of the input; a call of `start` and an empty log are as good
 abbrev pub EveryInput : Type 0
-EveryInput = (text input : List ℕ) (ls : List (List ℕ)) (room : ℕ)
+EveryInput = (log text input : List ℕ) (c : Call) (ls : List (List ℕ)) (room : ℕ)
     → 8195 ≤ room
     → ls ≡ map (take room) (lines input)
-    → Calls start_call [] ls text
+    → BegunAs log c
+    → Calls c log ls text
     → text ≡ explained_input input

@@ -6,7 +6,8 @@ ghost use Rattle.std.specs.Prelude.{◌≡◌, ◌++◌, ◌+◌, ◌≤◌, len
 ghost use Rattle.text_hex.specs.Appended.{Appended};
 ghost use Rattle.answer_lines.specs.Lines.{number_after};
 ghost use Rattle.explain_lines.specs.Printed.{own_text, bus_text, LINE_ROOM};
-ghost use Rattle.explain_lines.specs.Inner.Said.{closed_call, start_call, PLACES, BUS_ROOM, Lent, SaidAs};
+ghost use Rattle.explain_lines.specs.Inner.Said.{closed_call, start_call, PLACES, BUS_ROOM};
+ghost use Rattle.explain_lines.specs.Inner.Said.{BegunAs, Lent, SaidAs};
 
 use answer_frames::{frame_in, is_answer};
 use answer_lines::log::Log;
@@ -31,11 +32,19 @@ pub struct Said {
     pub made: usize,
 }
 
-// Before the first line.
+// Before the first line, where the log is empty; `begin` empties it.
 pub fn start() -> Call
     ensures { result ≡ start_call }
 {
     Call::closed(0)
+}
+
+// Before the first line of an input, whatever the log before it left behind: that is forgotten.
+pub fn begin(before: &mut Log) -> Call
+    ensures { BegunAs before.new result }
+{
+    before.clear();
+    start()
 }
 
 impl Call {

@@ -118,8 +118,8 @@ cut_lines room h n log (l ∷ ls) =
 -- ---- the claim
 
 pub every_input : EveryInput
-every_input output errors before last input ls m made room h e c f =
-    let w = writes c refl in
+every_input log output errors before last input k ls m made room h e b c f =
+    let w = writes c (ap (λ (o : Kept). o.drawn) b.kept) in
     subst (λ (v : Written). AllWritten v output (errors ++ take made last))
-    (ap drawn_all e ∙ cut_lines room h 0 [] (lines input))
+    ((λ i. drawn_from (b.kept i).lines (b.empty i) ls) ∙ (ap drawn_all e ∙ cut_lines room h 0 [] (lines input)))
     record { output = w.out; errors = ap (λ (l : List ℕ). errors ++ l) f.same ∙ w.err }

@@ -1,9 +1,9 @@
--- The claim over calls of `draw_line` one after the other, and one of `finish`.
+-- The claim over a call of `begin`, calls of `draw_line` one after the other behind it, and one of `finish`.
 use Rattle.std.specs.Prelude.{ℕ, ◌≤◌, true, false, List, [], ◌∷◌, ◌++◌, map, ◌≡◌, take}
 use Rattle.text_hex.specs.Text.{lines}
 use Rattle.text_hex.specs.Appended.{Appended}
 use Rattle.svg_lines.specs.Drawn.{Written, drawn_input}
-use Rattle.svg_lines.specs.Inner.Said.{start_kept, SaidAs, last_warning}
+use Rattle.svg_lines.specs.Inner.Said.{BegunAs, SaidAs, last_warning}
 use Rattle.svg_lines.specs.declared.Kept.{Kept}
 use Rattle.svg_lines.specs.declared.Said.{Said}
 
@@ -27,12 +27,13 @@ pub record AllWritten (w : Written) (out err : List ℕ) : Type 0 where
   pub output : out ≡ w.output
   pub errors : err ≡ w.errors
 
--- whoever makes such calls from an empty log with the lines of an input, each cut at its buffer's end, and then the call of `finish`, whose text goes
--- to standard error, has written what Drawn says of the input
+-- whoever makes a call of `begin`, over any log, then such calls with the lines of an input, each cut at its buffer's end, and then the call
+-- of `finish`, whose text goes to standard error, has written what Drawn says of the input; a call of `start` and an empty log are as good
 abbrev pub EveryInput : Type 0
-EveryInput = (output errors before last input : List ℕ) (ls : List (List ℕ)) (m : Kept) (made room : ℕ)
+EveryInput = (log output errors before last input : List ℕ) (k : Kept) (ls : List (List ℕ)) (m : Kept) (made room : ℕ)
     → 8195 ≤ room
     → ls ≡ map (take room) (lines input)
-    → Calls start_kept [] ls output errors m
+    → BegunAs log k
+    → Calls k log ls output errors m
     → Appended before 0 (last_warning m.drawn) 38 last made
     → AllWritten (drawn_input input) output (errors ++ take made last)

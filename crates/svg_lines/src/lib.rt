@@ -6,7 +6,7 @@ ghost use Rattle.std.specs.Prelude.{◌≡◌, ◌≤◌, length, take};
 ghost use Rattle.text_hex.specs.Appended.{Appended};
 ghost use Rattle.svg_lines.specs.Drawn.{warned};
 ghost use Rattle.svg_lines.specs.Inner.Said.{start_kept, PLACES, PICTURE_ROOM, log_picture};
-ghost use Rattle.svg_lines.specs.Inner.Said.{Lent, SaidAs, last_warning};
+ghost use Rattle.svg_lines.specs.Inner.Said.{BegunAs, Lent, SaidAs, last_warning};
 
 use answer_frames::{frame_in, is_answer};
 use answer_lines::log::Log;
@@ -31,7 +31,7 @@ pub struct Said {
     pub made: usize,
 }
 
-// Before the first line.
+// Before the first line, where the log is empty; `begin` empties it.
 pub fn start() -> Kept
     ensures { result ≡ start_kept }
 {
@@ -39,6 +39,14 @@ pub fn start() -> Kept
         lines: 0,
         drawn: false,
     }
+}
+
+// Before the first line of an input, whatever the log before it left behind: that is forgotten.
+pub fn begin(before: &mut Log) -> Kept
+    ensures { BegunAs before.new result }
+{
+    before.clear();
+    start()
 }
 
 // The picture of a log.

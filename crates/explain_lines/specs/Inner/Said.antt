@@ -1,5 +1,5 @@
--- What a call of `explain_line` leaves and prints. Only contracts cite this.
-use Rattle.std.specs.Prelude.{ℕ, ◌+◌, ◌≤◌, List, ◌≡◌, length, take, None}
+-- What a call of `begin` leaves, and what one of `explain_line` leaves and prints. Only contracts cite this.
+use Rattle.std.specs.Prelude.{ℕ, ◌+◌, ◌≤◌, List, [], ◌≡◌, length, take, None}
 use Rattle.bus.specs.declared.Sign.{Sign}
 use Rattle.explain_lines.specs.Printed.{Open, open_after, line_text, LINE_ROOM}
 use Rattle.explain_lines.specs.declared.Call.{Call}
@@ -15,6 +15,11 @@ start_call = closed_call 0
 -- what is kept, with the log
 abbrev pub open_of : Call → List ℕ → Open
 open_of c log = record { lines = c.lines; transfer = c.transfer; log = log }
+
+-- before the first line, with an empty log, whatever it held
+pub record BegunAs (log : List ℕ) (c : Call) : Type 0 where
+  pub empty : log ≡ []
+  pub call : c ≡ start_call
 
 -- how many signs a log can make, and the room for their text
 abbrev pub PLACES : ℕ

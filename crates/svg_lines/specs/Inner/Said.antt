@@ -1,4 +1,4 @@
--- What a call of `draw_line` leaves and writes. Only contracts cite this.
+-- What a call of `begin` leaves, and what one of `draw_line` leaves and writes. Only contracts cite this.
 use Rattle.std.specs.Prelude.{ℕ, ◌≤◌, Bool, true, false, List, [], ◌≡◌, eqb, length, take, if◌then◌else◌}
 use Rattle.regs.specs.Log.{decode}
 use Rattle.bus.specs.declared.Sign.{Sign}
@@ -11,6 +11,11 @@ use Rattle.svg_lines.specs.declared.Said.{Said}
 
 abbrev pub start_kept : Kept
 start_kept = record { lines = 0; drawn = false }
+
+-- before the first line, with an empty log, whatever it held
+pub record BegunAs (log : List ℕ) (k : Kept) : Type 0 where
+  pub empty : log ≡ []
+  pub kept : k ≡ start_kept
 
 -- how many signs a log can make, and the room for their picture
 abbrev pub PLACES : ℕ
