@@ -1,6 +1,6 @@
 -- The claim for the whole program: a call of `begin`, lines that calls of `next_line` hand out, each given to a call of `draw_line`
--- in turn, and then a call of `finish`. What is written is what svg_lines's Drawn says of the bytes that came. A program that stops at the picture
--- leaves the rest of its input unread, whatever it is.
+-- in turn, and then a call of `finish`. What is written is what svg_lines's Drawn says of the bytes that came. A program that stops
+-- at the picture leaves the rest of its input unread, whatever it is.
 use Prim.Native.Nat.{ℕ, ◌≤◌}
 use native.Mathlib.Omega.{arith}
 use mathlib.Core.List.{List, [], ◌++◌, map}

@@ -14,8 +14,8 @@ pub data Calls : Call → List ℕ → List (List ℕ) → List ℕ → Type 0 w
       → Calls r.call log' ls text
       → Calls c log (line ∷ ls) (take r.made out ++ text)
 
--- whoever makes a call of `begin`, over any log, and then such calls with the lines of an input, each cut at its buffer's end, has written
--- what Printed says of the input; a call of `start` and an empty log are as good
+-- whoever makes a call of `begin`, over any log, and then such calls with the lines of an input, each cut at its buffer's end,
+-- has written what Printed says of the input; a call of `start` and an empty log are as good
 abbrev pub EveryInput : Type 0
 EveryInput = (log text input : List ℕ) (c : Call) (ls : List (List ℕ)) (room : ℕ)
     → 8195 ≤ room

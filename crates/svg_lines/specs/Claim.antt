@@ -27,8 +27,9 @@ pub record AllWritten (w : Written) (out err : List ℕ) : Type 0 where
   pub output : out ≡ w.output
   pub errors : err ≡ w.errors
 
--- whoever makes a call of `begin`, over any log, then such calls with the lines of an input, each cut at its buffer's end, and then the call
--- of `finish`, whose text goes to standard error, has written what Drawn says of the input; a call of `start` and an empty log are as good
+-- whoever makes a call of `begin`, over any log, then such calls with the lines of an input, each cut at its buffer's end, and
+-- then the call of `finish`, whose text goes to standard error, has written what Drawn says of the input; a call of `start` and an
+-- empty log are as good
 abbrev pub EveryInput : Type 0
 EveryInput = (log output errors before last input : List ℕ) (k : Kept) (ls : List (List ℕ)) (m : Kept) (made room : ℕ)
     → 8195 ≤ room
