@@ -2,7 +2,7 @@
 -- byte, at the poll after the last place, or past the last byte.
 use Prim.Native.Nat.{ℕ, ◌+◌, ◌/◌, ◌-◌, ◌<◌, ◌≤◌, ◌^◌}
 use native.Mathlib.Omega.{arith}
-use mathlib.Core.Bool.{Bool}
+use mathlib.Core.Bool.{Bool, true, false, ◌&&◌}
 use mathlib.Core.List.{List}
 use mathlib.Core.Path.{◌≡◌, refl, ◌∙◌}
 use lib.ListN.{length, get_or}
@@ -62,6 +62,17 @@ no_place len send_stop i = refl
 pub no_byte : (len : ℕ) (send_stop : Bool) (i left : ℕ) → i ≡ len → 0 < left → filling len send_stop i left ≡ wait_stop send_stop (Ok tt)
 unfolding filling
 no_byte len send_stop i left ended some = rw (ne_eqb left 0 (λ (z : left ≡ 0). omega (arith, some, z)), le-ltb i len (omega (arith, ended)))
+
+and_true : (b : Bool) → (b && true) ≡ b
+and_true true = refl
+and_true false = refl
+
+-- STOP is asked for in the last round alone: before it no byte is the last one
+pub same_word : (last : Bool) → (byte i len : ℕ) (send_stop : Bool) → (last ≡ false → i + 1 < len)
+    → fill_word byte i len (send_stop && last) ≡ fill_word byte i len send_stop
+unfolding fill_word
+same_word true byte i len send_stop before = rw (and_true send_stop) refl
+same_word false byte i len send_stop before = rw (ne_eqb (i + 1) len (λ (z : i + 1 ≡ len). omega (arith, z, before refl))) refl
 
 module _ {t : Transfer} {bytes : List ℕ} where
   pub no_lead : {s : StepTaken} {r : Recording} → length r.log.now < 2 ^ 64 → Leads t bytes r s r s

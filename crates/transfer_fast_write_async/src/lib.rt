@@ -4,7 +4,9 @@
 // and TXFLR has room again.
 #![tactic(auto)]
 
-ghost use Rattle.std.specs.Prelude.{true, Option, IfSome, ◌≡◌, ◌+◌, ◌<◌, ◌≤◌};
+ghost use Rattle.std.specs.Prelude.{
+    true, false, Option, IfSome, ◌≡◌, ◌+◌, ◌-◌, ◌<◌, ◌≤◌, leb, length
+};
 ghost use Rattle.regs.specs.Inner.Recording.{Enters, room_of};
 ghost use Rattle.regs.specs.Registers.{DATA_CMD};
 ghost use Rattle.transfer.specs.Inner.Machine.{byte_at, fill_word, go};
@@ -15,7 +17,7 @@ ghost use Rattle.transfer_fast_write_async.specs.Inner.Fills.{Polls, StraightFil
 use regs::access::Recording;
 use regs_runs::{has, read};
 use transfer::{FillPoint, Point, Transfer};
-use transfer_access::words::{byte_of, word_of_fill};
+use transfer_access::words::word_of_fill;
 use transfer_after_waits::wait_for_stop;
 use transfer_fast_blocking::free;
 
@@ -51,22 +53,50 @@ fn planned(i: u16, len: u16, recording: &Recording) -> Option<u16>
     (0 < space && leads_on).then_some(space)
 }
 
-// Fills a place with byte i. The last one of a coded transfer is past the lent slice: 0 is sent for it.
-fn fill(t: Transfer, i: u16, bytes: &[u8], recording: &mut Recording)
-    requires { recording.old.entries < room_of recording.old }
+// Whether the bytes end in a round. The loop over the places of another
+// round is compiled without the tests for their end and for the last byte.
+fn is_last(i: u16, len: u16, space: u16) -> bool
+    requires { i ≤ len }
+    ensures { result ≡ leb (len - i) space }
+{
+    len - i <= space
+}
+
+// The byte of a place. The last one of a coded transfer is past the
+// lent slice, and 0 is sent for it; only a last round can come there.
+fn byte_of(last: bool, bytes: &[u8], at: usize, i: u16) -> u8
+    requires { (at + i ≤ length bytes.now)
+        × (last ≡ false → at + i < length bytes.now) }
+    ensures { result ≡ byte_at bytes.now at i }
+{
+    let place = at + usize::from(i);
+    if last && place == bytes.len() {
+        0
+    } else {
+        bytes[place]
+    }
+}
+
+// Fills a place with byte i. Before the last round no byte is the last one, which STOP goes with.
+fn fill(t: Transfer, last: bool, i: u16, bytes: &[u8], recording: &mut Recording)
+    requires { (recording.old.entries < room_of recording.old)
+        × (t.operation.at + i ≤ length bytes.now)
+        × (last ≡ false → t.operation.at + i < length bytes.now)
+        × (last ≡ false → i + 1 < t.operation.len) }
     ensures { Enters recording.old (0x200 + DATA_CMD)
         (fill_word (byte_at bytes.now t.operation.at i) i t.operation.len t.operation.send_stop)
         recording.new }
 {
-    let byte = byte_of(bytes, t.operation.at, i);
-    let w = word_of_fill(byte, i, t.operation.len, t.operation.send_stop);
+    let byte = byte_of(last, bytes, t.operation.at, i);
+    let w = word_of_fill(byte, i, t.operation.len, t.operation.send_stop & last);
     recording.put_write(regs::DATA_CMD, w);
 }
 
 // Round after round, until the bytes end or a round does not lead straight on. A place
 // without a byte leaves both loops: the operation waits for its STOP, or is done.
 fn run(t: Transfer, from: u16, bytes: &[u8], recording: &mut Recording) -> Option<Point>
-    requires { from ≤ t.operation.len }
+    requires { (from ≤ t.operation.len)
+        × (t.operation.at + t.operation.len ≤ length bytes.now + 1) }
     ensures { Leads t bytes.now recording.old (go (WriteAsync (Free from))) recording.new (Ok result) }
 {
     let len = t.operation.len;
@@ -78,11 +108,12 @@ fn run(t: Transfer, from: u16, bytes: &[u8], recording: &mut Recording) -> Optio
             return Some(Point::WriteAsync(FillPoint::Free(i)));
         };
         let _free = read(recording, regs::TXFLR);
+        let last = is_last(i, len, space);
         for n in 0..space {
-            if i + n == len {
+            if last && i + n == len {
                 break 'xmit;
             }
-            fill(t, i + n, bytes, recording);
+            fill(t, last, i + n, bytes, recording);
         }
         let _source = read(recording, regs::TX_ABRT_SOURCE);
         let _again = read(recording, regs::TXFLR);
@@ -91,12 +122,22 @@ fn run(t: Transfer, from: u16, bytes: &[u8], recording: &mut Recording) -> Optio
     wait_for_stop(t.operation.send_stop, Ok(()))
 }
 
-// The rounds from a byte on, or from past the last one, and where they lead. `t`, `bytes` and `recording`
+// Whether the bytes have their places, but perhaps the last one.
+fn are_within(t: Transfer, length: usize) -> bool
+    ensures { result ≡ true → t.operation.at + t.operation.len ≤ length + 1 }
+{
+    length
+        .checked_sub(t.operation.at)
+        .is_some_and(|left| usize::from(t.operation.len) <= left.saturating_add(1))
+}
+
+// The rounds from a byte on, or from past the last one, and where they lead. That each byte has its place
+// is asked once: but for the last one of a coded transfer, which is its code. `t`, `bytes` and `recording`
 // stay apart: a transfer by value, and two things that are lent.
 pub fn burst(t: Transfer, from: u16, bytes: &[u8], recording: &mut Recording) -> Option<Point>
     ensures { Leads t bytes.now recording.old (go (WriteAsync (Free from))) recording.new (Ok result) }
 {
-    if from <= t.operation.len {
+    if from <= t.operation.len && are_within(t, bytes.len()) {
         run(t, from, bytes, recording)
     } else {
         Some(Point::WriteAsync(FillPoint::Free(from)))

@@ -2,15 +2,22 @@
 -- that it has a byte. At the break no byte is left and a place is, which ends the operation (`last_round` of
 -- proofs/Fills.antt); where all places are filled, the poll that `planned` looked at leads to the next round
 -- (`one_round`). `lead_after` adds a round to those before it.
-use Rattle.std.proofs.Common.{arith, refl, ◌≡◌, ◌<◌, ◌+◌}
+use Rattle.std.proofs.Common.{arith, refl, sym, ◌∙◌, ◌≡◌, ◌<◌, ◌+◌, ◌-◌, leb-false}
 use Rattle.transfer_fast_write_async.proofs.Filling.{one_filled, lead_after}
 use Rattle.transfer_fast_write_async.proofs.Fills.{place_room, one_round, last_round}
+use Rattle.transfer_fast_write_async.proofs.run.Goals.{else-last-via-then-last+else-i-n, else-last-via-else-last}
 use Rattle.transfer_fast_write_async.proofs.run.Goals as goal
 
 pub loop-n-preserved : goal.loop-n-preserved
 loop-n-preserved c =
     let g = c.loop-n.invariant in
-    let before : c.xmit.i + c.loop-n.n < c.args.t.operation.len = omega (arith, g.within, c.if-i-n.false) in
+    let before : c.xmit.i + c.loop-n.n < c.args.t.operation.len =
+        elim c.else-last.branch [
+          | else-last-via-then-last+else-i-n w ↦ omega (arith, g.within, w.if-i-n.false)
+          | else-last-via-else-last w ↦
+            omega (arith, c.loop-n-test.true,
+            leb-false (c.args.t.operation.len - c.xmit.i) c.in-Some.space (sym c.is_last-last.ensures ∙ w.if-last.false))
+        ] in
     record {
       filled = one_filled g.filled before (place_room c.in-Some.ensures c.read-free.ensures c.loop-n-test.true before)
           (omega arith) refl c.fill.ensures;
