@@ -1,14 +1,14 @@
 // `read_blocking_internal`: TXFLR has room, the byte is asked for, RXFLR has it, and it is taken.
-ghost use Rattle.std.specs.Prelude.{List, true, false, ◌≡◌, ℕ, ◌+◌, ◌<◌};
+ghost use Rattle.std.specs.Prelude.{List, true, false, ◌≡◌, ℕ, ◌+◌, ◌<◌, ◌≤◌, length};
+ghost use Rattle.regs.specs.Inner.Recording.{room_of};
 ghost use Rattle.transfer.specs.declared.Point.TheVariants.{ReadBlocking};
 ghost use Rattle.transfer.specs.declared.ReadPoint.TheVariants.{Room};
 ghost use Rattle.transfer_fast_blocking.specs.Inner.Bursts.{Bursts, ForAny, SameRead, straight_read};
 
-use regs::access::{Recording, keep};
+use super::{ahead, are_within, left, room};
+use regs::access::Recording;
 use regs::fields::{byte_of, level_of, word_of};
-use regs_runs::has;
 use transfer::Transfer;
-use transfer::counts::sum;
 
 fn is_straight(room: u32, filled: u32) -> bool
     ensures { result ≡ straight_read room filled }
@@ -16,32 +16,37 @@ fn is_straight(room: u32, filled: u32) -> bool
     (level_of(room) < 16) & !(level_of(filled) == 0)
 }
 
-// Byte i, where the readings lead straight on; it is not the last one.
+// Byte i, where the readings lead straight on; it is not the last one. Its place, readings and room are
+// asked for once, before the loop.
 fn byte(t: Transfer, i: u16, recording: &mut Recording, buffer: &mut [u8]) -> bool
-    requires { i + 1 < t.operation.len }
+    requires { (i + 1 < t.operation.len)
+        × (t.operation.at + i < length buffer.old)
+        × (recording.old.used + 3 ≤ length recording.old.readings.now)
+        × (recording.old.entries + 4 ≤ room_of recording.old) }
     ensures taken { result ≡ true
         → ForAny
         (λ (bytes : List ℕ). Bursts (SameRead t) bytes recording.old buffer.old (ReadBlocking (Room i))
         recording.new buffer.new (ReadBlocking (Room (i + 1)))) }
+    ensures counted { result ≡ true
+        → (recording.new.used ≡ recording.old.used + 3)
+        × (recording.new.entries ≡ recording.old.entries + 4) }
     ensures left { result ≡ false
         → ForAny
         (λ (bytes : List ℕ). Bursts (SameRead t) bytes recording.old buffer.old (ReadBlocking (Room i))
         recording.new buffer.new (ReadBlocking (Room i))) }
 {
-    if has(recording, 3, 4) {
-        let room = recording.readings[recording.used];
-        let filled = recording.readings[recording.used + 1];
-        if is_straight(room, filled) {
-            let v = recording.readings[recording.used + 2];
-            let w = word_of(0, true, false, t.operation.restart & (i == 0));
-            recording.put_read(regs::TXFLR, room);
-            recording.put_write(regs::DATA_CMD, w);
-            recording.put_read(regs::RXFLR, filled);
-            recording.put_read(regs::DATA_CMD, v);
-            recording.used += 3;
-            keep(buffer, Some((sum(t.operation.at, i), byte_of(v))));
-            return true;
-        }
+    let room = recording.readings[recording.used];
+    let filled = recording.readings[recording.used + 1];
+    if is_straight(room, filled) {
+        let v = recording.readings[recording.used + 2];
+        let w = word_of(0, true, false, t.operation.restart & (i == 0));
+        recording.put_read(regs::TXFLR, room);
+        recording.put_write(regs::DATA_CMD, w);
+        recording.put_read(regs::RXFLR, filled);
+        recording.put_read(regs::DATA_CMD, v);
+        recording.used += 3;
+        buffer[t.operation.at + usize::from(i)] = byte_of(v);
+        return true;
     }
     false
 }
@@ -56,13 +61,14 @@ pub fn burst(t: Transfer, from: u16, recording: &mut Recording, buffer: &mut [u8
         recording.new buffer.new (ReadBlocking (Room result))) }
 {
     let last = t.operation.len.saturating_sub(1);
-    if last <= from {
+    if last <= from || !are_within(t, buffer.len()) {
         return from;
     }
-    for i in from..last {
+    let end = ahead(from, last, room(recording) / 4, left(recording) / 3);
+    for i in from..end {
         if !byte(t, i, recording, buffer) {
             return i;
         }
     }
-    last
+    end
 }

@@ -12,13 +12,12 @@ ghost use Rattle.transfer_fast_blocking.specs.Inner.Bursts.{Bursts, ForAny};
 ghost use Rattle.transfer_fast_read_async.specs.Inner.Rounds.{Queued, Fetched, SameRounds};
 ghost use Rattle.transfer_fast_read_async.specs.Inner.Rounds.{StraightRound, after_round};
 
-use regs::access::{Recording, keep};
+use regs::access::Recording;
 use regs::fields::{byte_of, level_of};
 use regs_runs::{has, read};
-use transfer::counts::sum;
 use transfer::{Round, Transfer};
 use transfer_access::words::word_of_queue;
-use transfer_fast_blocking::free;
+use transfer_fast_blocking::{are_within, free};
 
 // The words of a round.
 fn queue_words(t: Transfer, queue: u16, words: u16, recording: &mut Recording)
@@ -38,7 +37,7 @@ fn queue_words(t: Transfer, queue: u16, words: u16, recording: &mut Recording)
     }
 }
 
-// The bytes of a round; more remain.
+// The bytes of a round; more remain. That they have their places is asked for once, before the loops.
 fn fetch_bytes(
     t: Transfer,
     remaining: u16,
@@ -49,14 +48,15 @@ fn fetch_bytes(
     requires { (0 < count)
         × (0 < remaining)
         × (remaining + count ≤ t.operation.len)
+        × (t.operation.at + t.operation.len ≤ length buffer.old + 1)
         × (recording.old.used + count ≤ length recording.old.readings.now)
         × (recording.old.entries + count ≤ room_of recording.old) }
     ensures { Fetched t remaining count recording.old buffer.old recording.new buffer.new }
 {
-    let first = t.operation.len - remaining - count;
+    let first = t.operation.at + usize::from(t.operation.len - remaining - count);
     for n in 0..count {
         let byte = byte_of(read(recording, regs::DATA_CMD));
-        keep(buffer, Some((sum(t.operation.at, first + n), byte)));
+        buffer[first + usize::from(n)] = byte;
     }
 }
 
@@ -101,7 +101,8 @@ fn one_round(
     buffer: &mut [u8],
 ) -> Round
     requires { StraightRound recording.old round plan.words plan.count
-        × (round.remaining ≤ t.operation.len) }
+        × (round.remaining ≤ t.operation.len)
+        × (t.operation.at + t.operation.len ≤ length buffer.old + 1) }
     ensures is { result ≡ after_round round plan.words plan.count }
     ensures bursts { ForAny
         (λ (bytes : List ℕ). Bursts (SameRounds t) bytes recording.old buffer.old
@@ -129,7 +130,7 @@ pub fn burst(t: Transfer, from: Round, recording: &mut Recording, buffer: &mut [
         (λ (bytes : List ℕ). Bursts (SameRounds t) bytes recording.old buffer.old
         (ReadAsync (Capacity from)) recording.new buffer.new (ReadAsync (Capacity result))) }
 {
-    if t.operation.len < from.remaining {
+    if t.operation.len < from.remaining || !are_within(t, buffer.len()) {
         return from;
     }
     let mut round = from;

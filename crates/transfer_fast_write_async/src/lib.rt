@@ -19,7 +19,7 @@ use regs_runs::{has, read};
 use transfer::{FillPoint, Point, Transfer};
 use transfer_access::words::word_of_fill;
 use transfer_after_waits::wait_for_stop;
-use transfer_fast_blocking::free;
+use transfer_fast_blocking::{are_within, free};
 
 // Whether a round that fills all its places is followed by another: the first
 // poll finds no abort and room in the FIFO, and readings and log are long enough.
@@ -120,15 +120,6 @@ fn run(t: Transfer, from: u16, bytes: &[u8], recording: &mut Recording) -> Optio
         i += space;
     }
     wait_for_stop(t.operation.send_stop, Ok(()))
-}
-
-// Whether the bytes have their places, but perhaps the last one.
-fn are_within(t: Transfer, length: usize) -> bool
-    ensures { result ≡ true → t.operation.at + t.operation.len ≤ length + 1 }
-{
-    length
-        .checked_sub(t.operation.at)
-        .is_some_and(|left| usize::from(t.operation.len) <= left.saturating_add(1))
 }
 
 // The rounds from a byte on, or from past the last one, and where they lead. That each byte has its place

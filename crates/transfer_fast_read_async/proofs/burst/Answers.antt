@@ -8,6 +8,7 @@ pub loop-plan-preserved : goal.loop-plan-preserved
 loop-plan-preserved c = record {
   came = λ bytes. burst_after (c.loop-plan.invariant.came bytes) (c.one_round-round.ensures.bursts bytes);
   within = omega (arith, ap (λ (x : Round). x.remaining) c.one_round-round.ensures.is, c.loop-plan.invariant.within);
+  held = rw (c.one_round-round.ensures.bursts []).size c.loop-plan.invariant.held;
 }
 
 pub loop-plan-smaller : goal.loop-plan-smaller

@@ -1,6 +1,8 @@
--- `burst`: the loop's invariant is the burst up to a round, whose bytes are within the operation; each round puts
+-- `burst`: the loop's invariant is the burst up to a round, whose bytes are within the operation
+-- and have their places; each round puts
 -- entries, so the room in the log decreases.
-use Prim.Native.Nat.{ℕ, ◌-◌, ◌≤◌}
+use Prim.Native.Nat.{ℕ, ◌+◌, ◌-◌, ◌≤◌}
+use lib.ListN.{length}
 use mathlib.Core.List.{List}
 use Rattle.regs.specs.Inner.Recording.{room_of}
 use Rattle.transfer.specs.declared.Point.TheVariants.{ReadAsync}
@@ -15,6 +17,7 @@ invariant-loop-plan l =
       came : ForAny (λ (bytes : List ℕ). Bursts (SameRounds l.t) bytes l.initial.recording l.initial.buffer
           (ReadAsync (Capacity l.fn.from)) l.recording l.buffer (ReadAsync (Capacity l.round)));
       within : l.round.remaining ≤ l.t.operation.len;
+      held : l.t.operation.at + l.t.operation.len ≤ length l.buffer + 1;
     }
 
 abbrev pub decreases-loop-plan : goal.decreases-loop-plan

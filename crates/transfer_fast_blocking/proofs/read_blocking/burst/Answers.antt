@@ -1,15 +1,25 @@
--- `burst`: `burst_after` of proofs/Bursting.antt adds a byte to the burst so far, or the byte that is left.
-use Rattle.std.proofs.Common.{arith, ◌≡◌}
+-- `burst`: `burst_after` of proofs/Bursting.antt adds a byte to the burst so far, or the byte that is left. Each byte takes
+-- its readings and entries from those that `ahead` counted.
+use Rattle.std.proofs.Common.{arith, ◌≡◌, ◌∙◌, []}
 use Rattle.transfer_fast_blocking.proofs.Bursting.{burst_after}
 use Rattle.transfer_fast_blocking.proofs.read_blocking.burst.Goals as goal
 
 pub returns-then-not-byte : goal.returns-then-not-byte
-returns-then-not-byte c = λ bytes. burst_after (c.loop-i.invariant bytes) (c.byte.ensures.left c.if-not-byte.true bytes)
+returns-then-not-byte c = λ bytes. burst_after (c.loop-i.invariant.came bytes) (c.byte.ensures.left c.if-not-byte.true bytes)
 
 pub loop-i-preserved : goal.loop-i-preserved
-loop-i-preserved c = λ bytes. burst_after (c.loop-i.invariant bytes) (c.byte.ensures.taken c.if-not-byte.false bytes)
+loop-i-preserved c =
+    let g = c.loop-i.invariant in
+    let b = c.byte.ensures.taken c.if-not-byte.false [] in
+    let n = c.byte.ensures.counted c.if-not-byte.false in
+    record {
+      came = λ bytes. burst_after (g.came bytes) (c.byte.ensures.taken c.if-not-byte.false bytes);
+      left = rw b.keeps.readings (omega (arith, g.left, n.0));
+      room = rw b.keeps.size (omega (arith, g.room, n.1));
+      wide = b.size ∙ g.wide;
+    }
 
 pub returns : goal.returns
 returns c = λ bytes.
-    let all : c.loop-i.i ≡ c.saturating_sub-last.result = omega (arith, c.loop-i-test.false, c.loop-i.auto.i-end, c.if-last-from.false) in
-    rw (← all) (c.loop-i.invariant bytes)
+    let all : c.loop-i.i ≡ c.ahead-end.result = omega (arith, c.loop-i-test.false, c.loop-i.auto.i-end, c.ahead-end.ensures.0) in
+    rw (← all) (c.loop-i.invariant.came bytes)

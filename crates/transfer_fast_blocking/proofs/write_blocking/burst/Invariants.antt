@@ -1,6 +1,9 @@
--- `burst`: the loop's invariant is the burst up to byte i.
+-- `burst`: the loop's invariant is the burst up to byte i, with 2 readings and 3 entries for each byte to go.
 use mathlib.Core.List.{List}
-use Prim.Native.Nat.{ℕ}
+use mathlib.Core.Path.{◌≡◌}
+use lib.ListN.{length}
+use Prim.Native.Nat.{ℕ, ◌*◌, ◌-◌, ◌≤◌}
+use Rattle.regs.specs.Inner.Recording.{room_of}
 use Rattle.transfer.specs.declared.Point.TheVariants.{WriteBlocking}
 use Rattle.transfer.specs.declared.WritePoint.TheVariants.{Send}
 use Rattle.transfer_fast_blocking.specs.Inner.Bursts.{Bursts, ForAny, SameWrite}
@@ -8,5 +11,9 @@ use Rattle.transfer_fast_blocking.proofs.write_blocking.burst.Given as goal
 
 abbrev pub invariant-loop-i : goal.invariant-loop-i
 invariant-loop-i l =
-    ForAny (λ (buffer : List ℕ). Bursts (SameWrite l.t) l.bytes l.initial.recording buffer
-    (WriteBlocking (Send l.from)) l.recording buffer (WriteBlocking (Send l.i)))
+    record {
+      came : ForAny (λ (buffer : List ℕ). Bursts (SameWrite l.t) l.bytes l.initial.recording buffer
+          (WriteBlocking (Send l.from)) l.recording buffer (WriteBlocking (Send l.i)));
+      left : 2 * (l.end - l.i) ≤ length l.recording.readings.now - l.recording.used;
+      room : 3 * (l.end - l.i) ≤ room_of l.recording - l.recording.entries;
+    }

@@ -1,4 +1,4 @@
--- `byte`: where readings and entries are left and `is_straight` holds, `byte_written` of proofs/Writing.antt is the run
+-- `byte`: where `is_straight` holds, `byte_written` of proofs/Writing.antt is the run
 -- of the machine over the byte, and `burst_put` puts it into the recording.
 use Rattle.std.proofs.Common.{arith, rules, refl, ◌≡◌, ◌+◌, true}
 use lib.Dec.{eqb}
@@ -17,14 +17,14 @@ use Rattle.transfer_fast_blocking.proofs.write_blocking.byte.Goals as goal
 pub returns-then-is_straight-clause-sent : goal.returns-then-is_straight-clause-sent
 returns-then-is_straight-clause-sent c = λ is buffer.
     let r = c.args.recording.now in
-    let more = c.has.ensures c.if-has.true in
+    let need = c.requires in
     let stat = get_or r.readings.now r.used 0 in
     let source = get_or r.readings.now (r.used + 1) 0 in
     let straight : straight_write stat source ≡ true = search rules in
     let both = both_of (tx_empty stat) (eqb source 0) straight in
-    let write = rw (c.word_of-w.ensures, c.byte_of.ensures) at c.put_write.ensures in
+    let write = rw (c.word_of-w.ensures, c.from.ensures) at c.put_write.ensures in
     burst_put 2 (next_put (next_put (first_put write) c.put_read.ensures) c.put_read-then-is_straight.ensures)
-    more.1 refl
+    need.3 refl
     (λ coded kinds lengths t' same. rw (← same.at) (byte_written coded kinds lengths c.args.bytes.now t'
-    (stays (machine coded kinds lengths c.args.bytes.now) r.readings.now (omega arith)) more.1 more.0
-    both.0 (eqb-true source 0 both.1) (rw same.len c.requires)))
+    (stays (machine coded kinds lengths c.args.bytes.now) r.readings.now (omega arith)) need.3 need.2
+    both.0 (eqb-true source 0 both.1) (rw same.len need.0)))
