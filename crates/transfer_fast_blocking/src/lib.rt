@@ -28,9 +28,8 @@ pub fn free(v: u32) -> u16
 pub fn are_within(t: Transfer, length: usize) -> bool
     ensures { result ≡ true → t.operation.at + t.operation.len ≤ length + 1 }
 {
-    length
-        .checked_sub(t.operation.at)
-        .is_some_and(|left| usize::from(t.operation.len) <= left.saturating_add(1))
+    length.checked_sub(t.operation.at).is_some_and(|left| usize::from(t.operation.len)
+        <= left.saturating_add(1))
 }
 
 // How many readings are left.

@@ -7,7 +7,7 @@ ghost use Rattle.transfer_fast_polls.specs.Inner.Stays.{Stays, flag_set, AwaitsF
 
 use regs::access::{Entry, Recording};
 use regs::fields::{has_stop_det, has_tx_empty};
-use regs_runs::ahead;
+use regs_runs::has;
 
 // The flag that is awaited.
 #[derive(Clone, Copy)]
@@ -32,7 +32,10 @@ pub fn poll(flag: Flag, recording: &mut Recording) -> bool
         (λ (p : Point). AwaitsFlag flag p → Stays p recording.old recording.new) }
     ensures found_nothing { result ≡ true → Grows recording.old recording.new }
 {
-    let stat = ahead(recording, 0);
+    if !has(recording, 1, 1) {
+        return false;
+    }
+    let stat = recording.readings[recording.used];
     let entries = [Entry::Read(regs::RAW_INTR_STAT, stat)];
     regs_runs::poll(recording, !flag.is_set(stat), 1, &entries)
 }

@@ -8,7 +8,7 @@ ghost use Rattle.transfer_fast_polls.specs.Inner.Stays.{Stays, no_byte};
 
 use regs::access::{Entry, Recording};
 use regs::fields::level_of;
-use regs_runs::ahead;
+use regs_runs::has;
 
 // `filled` and `source` stay two words: they are the readings of two registers.
 fn is_empty(filled: u32, source: u32) -> bool
@@ -22,8 +22,11 @@ pub fn poll(recording: &mut Recording) -> bool
         (λ (i : ℕ). Stays (ReadBlocking (Level i)) recording.old recording.new) }
     ensures found_nothing { result ≡ true → Grows recording.old recording.new }
 {
-    let filled = ahead(recording, 0);
-    let source = ahead(recording, 1);
+    if !has(recording, 2, 2) {
+        return false;
+    }
+    let filled = recording.readings[recording.used];
+    let source = recording.readings[recording.used + 1];
     let entries = [
         Entry::Read(regs::RXFLR, filled),
         Entry::Read(regs::TX_ABRT_SOURCE, source),

@@ -14,7 +14,8 @@ use regs::access::Recording;
 use transfer::{AbortPoint, Caller, Point, ReadPoint, RoundPoint, WritePoint};
 
 // One poll at a point, if it is one where a transfer polls, and whether it found nothing.
-// What it did not make is left to the machine.
+// What it did not make is left to the machine. Each asks for its readings and entries before it reads,
+// so that no reading needs a test of its own, nor an entry that is made for nothing.
 fn poll(p: Point, recording: &mut Recording) -> bool
     ensures stays { Stays p recording.old recording.new }
     ensures found_nothing { result ≡ true → Grows recording.old recording.new }

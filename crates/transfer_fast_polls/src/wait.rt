@@ -14,7 +14,7 @@ use regs::access::{Entry, Recording};
 use regs::fields::{
     has_stop_det, level_of, with_m_rx_full, with_m_stop_det, with_m_tx_abrt, with_m_tx_empty,
 };
-use regs_runs::{ahead, poll};
+use regs_runs::{has, poll};
 
 // `filled` and `source` stay two words: they are the readings of two registers.
 fn is_too_few(batch: u16, filled: u32, source: u32) -> bool
@@ -31,9 +31,12 @@ pub fn batch(batch: u16, recording: &mut Recording) -> bool
         recording.new) }
     ensures found_nothing { result ≡ true → Grows recording.old recording.new }
 {
-    let filled = ahead(recording, 0);
-    let source = ahead(recording, 1);
-    let mask = ahead(recording, 2);
+    if !has(recording, 3, 6) {
+        return false;
+    }
+    let filled = recording.readings[recording.used];
+    let source = recording.readings[recording.used + 1];
+    let mask = recording.readings[recording.used + 2];
     let entries = [
         Entry::Read(regs::RXFLR, filled),
         Entry::Read(regs::TX_ABRT_SOURCE, source),
@@ -57,9 +60,12 @@ pub fn space(recording: &mut Recording) -> bool
         (λ (i : ℕ). Stays (Abort Source (Space i)) recording.old recording.new) }
     ensures found_nothing { result ≡ true → Grows recording.old recording.new }
 {
-    let source = ahead(recording, 0);
-    let filled = ahead(recording, 1);
-    let mask = ahead(recording, 2);
+    if !has(recording, 3, 6) {
+        return false;
+    }
+    let source = recording.readings[recording.used];
+    let filled = recording.readings[recording.used + 1];
+    let mask = recording.readings[recording.used + 2];
     let entries = [
         Entry::Read(regs::TX_ABRT_SOURCE, source),
         Entry::Read(regs::TXFLR, filled),
@@ -82,9 +88,12 @@ pub fn stop(recording: &mut Recording) -> bool
     ensures stays { Stays (Abort Source (Stop (Ok tt))) recording.old recording.new }
     ensures found_nothing { result ≡ true → Grows recording.old recording.new }
 {
-    let source = ahead(recording, 0);
-    let stat = ahead(recording, 1);
-    let mask = ahead(recording, 2);
+    if !has(recording, 3, 5) {
+        return false;
+    }
+    let source = recording.readings[recording.used];
+    let stat = recording.readings[recording.used + 1];
+    let mask = recording.readings[recording.used + 2];
     let entries = [
         Entry::Read(regs::TX_ABRT_SOURCE, source),
         Entry::Read(regs::RAW_INTR_STAT, stat),

@@ -5,7 +5,17 @@
 #![tactic(auto)]
 
 ghost use Rattle.std.specs.Prelude.{
-    true, false, Option, IfSome, ◌≡◌, ◌+◌, ◌-◌, ◌<◌, ◌≤◌, leb, length
+  true,
+  false,
+  Option,
+  IfSome,
+  ◌≡◌,
+  ◌+◌,
+  ◌-◌,
+  ◌<◌,
+  ◌≤◌,
+  leb,
+  length,
 };
 ghost use Rattle.regs.specs.Inner.Recording.{Enters, room_of};
 ghost use Rattle.regs.specs.Registers.{DATA_CMD};

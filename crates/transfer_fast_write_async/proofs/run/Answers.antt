@@ -12,12 +12,15 @@ pub loop-n-preserved : goal.loop-n-preserved
 loop-n-preserved c =
     let g = c.loop-n.invariant in
     let before : c.xmit.i + c.loop-n.n < c.args.t.operation.len =
-        elim c.else-last.branch [
-          | else-last-via-then-last+else-i-n w ↦ omega (arith, g.within, w.if-i-n.false)
-          | else-last-via-else-last w ↦
-            omega (arith, c.loop-n-test.true,
-            leb-false (c.args.t.operation.len - c.xmit.i) c.in-Some.space (sym c.is_last-last.ensures ∙ w.if-last.false))
-        ] in
+    elim c.else-last.branch [
+      | else-last-via-then-last+else-i-n w ↦ omega (arith, g.within, w.if-i-n.false)
+      | else-last-via-else-last w ↦
+          omega (
+            arith,
+            c.loop-n-test.true,
+            leb-false (c.args.t.operation.len - c.xmit.i) c.in-Some.space (sym c.is_last-last.ensures ∙ w.if-last.false),
+          )
+    ] in
     record {
       filled = one_filled g.filled before (place_room c.in-Some.ensures c.read-free.ensures c.loop-n-test.true before)
           (omega arith) refl c.fill.ensures;

@@ -1,6 +1,6 @@
 -- `burst`: `burst_after` of proofs/Bursting.antt adds a byte to the burst so far, or the byte that is left. Each byte takes
 -- its readings and entries from those that `ahead` counted.
-use Rattle.std.proofs.Common.{arith, ◌≡◌, ◌∙◌, []}
+use Rattle.std.proofs.Common.{arith, ◌≡◌, []}
 use Rattle.transfer_fast_blocking.proofs.Bursting.{burst_after}
 use Rattle.transfer_fast_blocking.proofs.write_blocking.burst.Goals as goal
 

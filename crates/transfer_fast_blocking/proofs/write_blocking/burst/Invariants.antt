@@ -1,6 +1,5 @@
 -- `burst`: the loop's invariant is the burst up to byte i, with 2 readings and 3 entries for each byte to go.
 use mathlib.Core.List.{List}
-use mathlib.Core.Path.{◌≡◌}
 use lib.ListN.{length}
 use Prim.Native.Nat.{ℕ, ◌*◌, ◌-◌, ◌≤◌}
 use Rattle.regs.specs.Inner.Recording.{room_of}
