@@ -24,6 +24,8 @@ impl<'a> Text<'a> {
         Text { out, at }
     }
 
+    // A byte. It and the digits below are inlined: called, each would store the place and load it again.
+    #[inline(always)]
     pub fn push(&mut self, c: u8)
         requires { Room 1 self.old }
         ensures { Added self.old (c ∷ []) 1 self.new }
@@ -43,6 +45,7 @@ impl<'a> Text<'a> {
     }
 
     // A number in 2 digits, which are made as `pairs` says. So are 8 digits.
+    #[inline(always)]
     pub fn push_hex2_by<P: BytePairs>(&mut self, pairs: &P, n: u32)
         requires { Room 2 self.old }
         ensures { Added self.old (hex2 n) 2 self.new }
@@ -52,6 +55,7 @@ impl<'a> Text<'a> {
         self.push(pair.low);
     }
 
+    #[inline(always)]
     fn push_hex8_by<P: BytePairs>(&mut self, pairs: &P, n: u32)
         requires { Room 8 self.old }
         ensures { Added self.old (hex8 n) 8 self.new }
@@ -66,6 +70,7 @@ impl<'a> Text<'a> {
 
     // A number in 2 digits. This and the one of 8 stay apart: a const parameter could be any number of digits, and
     // only these two have a definition.
+    #[inline(always)]
     pub fn push_hex2(&mut self, n: u32)
         requires { Room 2 self.old }
         ensures { Added self.old (hex2 n) 2 self.new }
@@ -74,6 +79,7 @@ impl<'a> Text<'a> {
     }
 
     // A number in 8 digits.
+    #[inline(always)]
     pub fn push_hex8(&mut self, n: u32)
         requires { Room 8 self.old }
         ensures { Added self.old (hex8 n) 8 self.new }
@@ -107,9 +113,13 @@ impl<'a> Text<'a> {
         requires { Room (3 + 2 * length bytes.now) self.old }
         ensures { Added self.old (buffer_text bytes.now) (3 + 2 * length bytes.now) self.new }
     {
-        self.push_hex2(0x34);
-        self.push_bytes(bytes);
-        self.push(b'\n');
+        // In a text of its own the place stays in a register; in the one that is lent it would be stored with
+        // each digit.
+        let mut line = Text::new(&mut *self.out, self.at);
+        line.push_hex2(0x34);
+        line.push_bytes(bytes);
+        line.push(b'\n');
+        self.at = line.at;
     }
 
     fn push_bytes(&mut self, bytes: &[u8])

@@ -19,13 +19,25 @@ fn push_until_dot(text: &mut Text, letters: &[u8])
 
 // The text of a row: it ends at a dot. The table, the width and the row stay apart, as the number of flags does
 // below: the tables are byte strings, one row a line, and an array of arrays would say the same in another literal.
-pub fn push_cell(text: &mut Text, table: &[u8], width: usize, row: usize)
+fn push_row(text: &mut Text, table: &[u8], width: usize, row: usize)
     requires room { Room width text.old }
     requires in_table { row * width + width ≤ length table.now }
     ensures { Added text.old (cell table.now width row) width text.new }
 {
     let first = row * width;
     push_until_dot(text, &table[first..first + width]);
+}
+
+// The same in a text of its own, where the place stays in a register; in the one that is lent it would be
+// stored with each byte.
+pub fn push_cell(text: &mut Text, table: &[u8], width: usize, row: usize)
+    requires room { Room width text.old }
+    requires in_table { row * width + width ≤ length table.now }
+    ensures { Added text.old (cell table.now width row) width text.new }
+{
+    let mut cell = Text::new(&mut *text.out, text.at);
+    push_row(&mut cell, table, width, row);
+    text.at = cell.at;
 }
 
 // The name of a flag that is set, behind a space.

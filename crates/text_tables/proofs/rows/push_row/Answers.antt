@@ -1,8 +1,8 @@
--- `push_cell`: the letters of the row are what `cell` takes of the table.
+-- `push_row`: the letters of the row are what `cell` takes of the table.
 use Rattle.std.proofs.Common.{◌≡◌, ◌+◌, ◌-◌, ◌*◌, ◌≤◌, arith, length, drop, length-drop}
 use lib.Seq.{length-take-le}
 use Rattle.text_tables.specs.Rows.{cell}
-use Rattle.text_tables.proofs.rows.push_cell.Goals as goal
+use Rattle.text_tables.proofs.rows.push_row.Goals as goal
 
 pub returns : goal.returns
 unfolding cell
