@@ -1,5 +1,4 @@
 -- `crc8::lanes::take_in` meets its contract: the block's first j bytes are taken in.
-use borrow.Author.Rules.{rules}
 use native.Mathlib.Omega.{arith}
 use mathlib.Core.Path.{◌≡◌, ◌∙◌, refl}
 use Rattle.crc8.proofs.Folding.{partly, partly_all, taken}
@@ -11,8 +10,9 @@ loop-j-init c = refl
 
 pub loop-j-preserved : goal.loop-j-preserved
 loop-j-preserved c =
-    taken _ _ _ _ _ (omega (arith, c.told-lanes, c.loop-j-test.true)) (omega (arith, c.told-block, c.loop-j-test.true))
-    c.loop-j.invariant (search rules)
+    taken c.loop-j.j c.args.lanes.now c.args.block.now c.loop-j.lanes c.after_four.result
+    (omega (arith, c.told-lanes, c.loop-j-test.true)) (omega (arith, c.told-block, c.loop-j-test.true))
+    c.loop-j.invariant c.after_four.ensures
 
 pub returns : goal.returns
 returns c =
