@@ -16,6 +16,7 @@ fn fits(used: usize, more: usize, length: usize) -> bool
 }
 
 // Whether a recording has so many more readings, and room for so many more entries.
+#[inline(always)]
 pub fn has(recording: &Recording, readings: usize, entries: usize) -> bool
     ensures { result ≡ true
         → (recording.now.used + readings ≤ length recording.now.readings.now)
@@ -48,6 +49,7 @@ pub fn ahead(recording: &Recording, n: usize) -> u32
 }
 
 // Puts an entry behind those that there are.
+#[inline(always)]
 fn put(recording: &mut Recording, entry: Entry)
     requires { recording.old.entries < room_of recording.old }
     ensures { Enters recording.old (head_put entry) (value_put entry) recording.new }
@@ -61,6 +63,7 @@ fn put(recording: &mut Recording, entry: Entry)
 
 // A poll that may have found nothing: then its entries are put and so many readings
 // used, where the recording has them all; and whether that was so.
+#[inline(always)]
 pub fn poll(
     recording: &mut Recording,
     found_nothing: bool,

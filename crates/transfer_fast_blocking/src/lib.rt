@@ -33,14 +33,14 @@ pub fn are_within(t: Transfer, length: usize) -> bool
 }
 
 // How many readings are left.
-fn left(recording: &Recording) -> usize
+pub fn left(recording: &Recording) -> usize
     ensures { result ≡ length recording.now.readings.now - recording.now.used }
 {
     recording.readings.len().saturating_sub(recording.used)
 }
 
 // For how many entries more the log has room.
-fn room(recording: &Recording) -> usize
+pub fn room(recording: &Recording) -> usize
     ensures { result ≡ room_of recording.now - recording.now.entries }
 {
     (recording.log.len() / 2).saturating_sub(recording.entries)

@@ -41,3 +41,11 @@ module _ (coded : Bool) (kinds lengths bytes : List ℕ) {readings : List ℕ} (
       let a : M.advance (with_point t p) (get_or readings u 0) ≡ with_point t p =
       rw (at.waits t.operation.len t.operation.send_stop (get_or readings u 0) unset) in
       rw (at.keeps (with_point t p) (get_or readings u 0)) at (did_read g (at.reads bytes (with_point t p)) room left a refl refl)
+
+-- the points that wait for a flag
+pub record Waiting (flag : Flag) : Type 0 where
+  pub point : Point
+  pub awaits : AwaitsFlag flag point
+
+abbrev pub awaiting : (flag : Flag) → Waiting flag → Point
+awaiting flag w = w.point

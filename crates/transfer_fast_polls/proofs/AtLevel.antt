@@ -14,6 +14,7 @@ use Rattle.transfer.specs.Inner.Points.{with_point}
 use Rattle.transfer.specs.Inner.Machine.{machine, next_at, next_read, next_abort, store_at, store_read, step_of}
 use Rattle.transfer.specs.Inner.Machine.{step_read, level_step, step_abort, returned}
 use Rattle.transfer.specs.declared.Transfer.{Transfer}
+use Rattle.transfer.specs.declared.Point.{Point}
 use Rattle.transfer.specs.declared.Point.TheVariants.{ReadBlocking, Abort}
 use Rattle.transfer.specs.declared.ReadPoint.TheVariants.{Level}
 use Rattle.transfer.specs.declared.AbortPoint.TheVariants.{Source}
@@ -42,3 +43,7 @@ module _ (coded : Bool) (kinds lengths bytes : List ℕ) {readings : List ℕ} (
       let a₂ : M.advance (with_point t (Abort Source (Read i))) (get_or readings (u + 1) 0)
       ≡ with_point t (ReadBlocking (Level i)) = rw both.1 in
       did_read g₁ refl (omega (arith, room)) (omega (arith, left)) a₂ q₂ v₂
+
+-- the points that wait for a byte
+abbrev pub at_level : ℕ → Point
+at_level i = ReadBlocking (Level i)
