@@ -2,6 +2,7 @@
 ghost use Rattle.std.specs.Prelude.{ℕ, List, ◌≡◌, [], ◌≤◌, length, take};
 ghost use Rattle.answer_lines.specs.Lines.{kept_on};
 
+use counts::least;
 use explain_bus::kept::keep;
 use std::marker::Model;
 
@@ -39,7 +40,7 @@ impl Log {
     pub fn of(words: &[u32]) -> Log
         ensures { result ≡ take 16384 words.now }
     {
-        let used = LOG_WORDS.min(words.len());
+        let used = least(LOG_WORDS, words.len());
         let mut all = [0; LOG_WORDS];
         all[..used].copy_from_slice(&words[..used]);
         Log { words: all, used }
@@ -64,6 +65,6 @@ impl Log {
     pub fn keep(&mut self, line: &[u8])
         ensures { self.new ≡ kept_on self.old line.now }
     {
-        self.used = keep(line, &mut self.words, self.used).min(LOG_WORDS);
+        self.used = least(keep(line, &mut self.words, self.used), LOG_WORDS);
     }
 }
