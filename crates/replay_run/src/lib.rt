@@ -40,6 +40,7 @@ fn set_config(frequency: u32, clk: u32, readings: &[u32], work: &mut Workspace)
     ensures ran { Added work.old.text
         (outcome_text false (replayed (set_config frequency clk) readings.now [] tt))
         MOST_TEXT work.new.text }
+    ensures kept { work.new.buffer.now ≡ work.old.buffer.now }
 {
     let log = &mut *work.log;
     let ran = clock::set_config(frequency, clk, readings, log);

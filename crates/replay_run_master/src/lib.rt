@@ -1,7 +1,7 @@
 // The master's transfers, run and printed.
 #![tactic(auto)]
 
-ghost use Rattle.std.specs.Prelude.{◌≡◌, [], ◌&&◌, ◌≤◌, length};
+ghost use Rattle.std.specs.Prelude.{◌≡◌, [], ◌&&◌, ◌≤◌, drop, length};
 ghost use Rattle.regs.specs.Log.{Leaves, LeavesBuffer, expected};
 ghost use Rattle.master.specs.Operations.{fits, lists};
 ghost use Rattle.master.specs.Operations as Master;
@@ -133,6 +133,8 @@ pub fn transfer(
     ensures same { SameSpace work.old work.new }
     ensures ran { Transferred form address (listed_of operations.entry)
         readings.now work.old.text work.new.text }
+    ensures kept { drop operations.entry.room work.new.buffer.now
+        ≡ drop operations.entry.room work.old.buffer.now }
 {
     let has_read = has_read(operations);
     let bytes = operations.bytes;

@@ -1,7 +1,7 @@
 // The slave's calls, run and printed.
 #![tactic(auto)]
 
-ghost use Rattle.std.specs.Prelude.{◌≡◌, ◌≤◌, length, replicate};
+ghost use Rattle.std.specs.Prelude.{◌≡◌, ◌≤◌, drop, length, replicate};
 ghost use Rattle.slave.specs.Calls.{program};
 ghost use Rattle.slave_run.specs.Requests.{call_of, is_listen};
 ghost use Rattle.text_hex.specs.Added.{Room};
@@ -41,6 +41,7 @@ pub fn call(
         (replayed (program (call_of request bytes.now (replicate places 0))) readings.now
         (replicate places 0) s)
         work.old.text work.new.text result }
+    ensures kept { drop places work.new.buffer.now ≡ drop places work.old.buffer.now }
 {
     let log = &mut *work.log;
     let buffer = &mut work.buffer[..places];
