@@ -4,11 +4,11 @@
 pub mod bytes; // a run of bytes inside a line
 pub mod ahead; // whole lines of a chunk
 
-ghost use Rattle.std.specs.Prelude.{[], ◌∷◌, ◌<◌, ◌≤◌, length, get_or};
+ghost use Rattle.std.specs.Prelude.{[], ◌∷◌, ◌<◌, ◌≤◌, length, get_or, drop};
 ghost use Rattle.text_hex.specs.Added.{Room};
 ghost use Rattle.replay_calls.specs.Inner.Runs.{MOST_TEXT};
 ghost use Rattle.replay_state.specs.Inner.Rest.{PartSound, SameReader, Sound, reader_of};
-ghost use Rattle.replay_scan.specs.Inner.Inside.{NoCall, NoEnd, WentInside};
+ghost use Rattle.replay_scan.specs.Inner.Inside.{NoCall, NoEnd, WentBeside, WentInside};
 ghost use Rattle.replay_scan.specs.Inner.StepsOn.{StepsOn};
 
 use bytes::run;
@@ -20,6 +20,7 @@ fn one(reader: &mut Reader, x: u8)
     requires room { Room MOST_TEXT reader.old.work.text }
     ensures same { SameReader reader.old reader.new }
     ensures went { WentInside reader.old (x ∷ []) reader.new }
+    ensures beside { WentBeside reader.old (x ∷ []) reader.new [] }
     ensures no_call { NoCall reader.old reader.new }
 {
     let state = reader.state;
@@ -42,6 +43,7 @@ pub fn some(reader: &mut Reader, chunk: &[u8]) -> usize
     requires room { Room MOST_TEXT reader.old.work.text }
     ensures same { SameReader reader.old reader.new }
     ensures steps { Sound (reader_of reader.old) → StepsOn reader.old chunk.now reader.new result }
+    ensures beside { WentBeside reader.old chunk.now reader.new (drop result chunk.now) }
     ensures no_call { NoCall reader.old reader.new }
     ensures used { (0 < result) × (result ≤ length chunk.now) }
 {
